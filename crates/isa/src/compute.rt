@@ -15,7 +15,9 @@ pub fn unit_of(kind: Kind) -> Option<ExecUnit>
         Kind::Multiply => Some(ExecUnit::Multiply),
         Kind::Divide => Some(ExecUnit::Divide),
         Kind::Load => Some(ExecUnit::Memory),
-        Kind::Set | Kind::Add | Kind::Subtract | Kind::ExclusiveOr | Kind::CheckedAdd => Some(ExecUnit::Short),
+        Kind::Set | Kind::Add | Kind::Subtract | Kind::ExclusiveOr | Kind::CheckedAdd => Some(
+            ExecUnit::Short,
+        ),
     }
 }
 

@@ -24,7 +24,10 @@ impl PlainMachine {
     pub fn new() -> PlainMachine
         ensures { λ r. ⌜ ((ws : List ℕ) → plain-of r ws ≡ at-zero ws) ⌝ }
     {
-        PlainMachine { registers: [0; 16], counter: 0 }
+        PlainMachine {
+            registers: [0; 16],
+            counter: 0,
+        }
     }
 
     // One instruction. Its faults are tried in this order: no word at the counter, an illegal word, and the
@@ -50,7 +53,11 @@ impl PlainMachine {
                 Ok(())
             }
             Kind::BranchEqual | Kind::BranchUnequal => {
-                self.counter = if branch_taken(kind, x, y) { n as usize } else { at + 1 };
+                self.counter = if branch_taken(kind, x, y) {
+                    n as usize
+                } else {
+                    at + 1
+                };
                 Ok(())
             }
             _ => {

@@ -70,7 +70,12 @@ fn unused_zero(kind: Kind, d: u8, a: u8, b: u8, n: u16) -> bool
     match kind {
         Kind::Stop => d == 0 && a == 0 && b == 0 && n == 0,
         Kind::Set => a == 0 && b == 0,
-        Kind::Add | Kind::Subtract | Kind::ExclusiveOr | Kind::Multiply | Kind::Divide | Kind::CheckedAdd => n == 0,
+        Kind::Add
+        | Kind::Subtract
+        | Kind::ExclusiveOr
+        | Kind::Multiply
+        | Kind::Divide
+        | Kind::CheckedAdd => n == 0,
         Kind::Load => b == 0,
         Kind::Store | Kind::BranchEqual | Kind::BranchUnequal => d == 0,
     }
@@ -84,12 +89,17 @@ pub fn write_word(kind: Kind, d: u8, a: u8, b: u8, n: u16) -> Result<u32, Refusa
     if d > 15 || a > 15 || b > 15 || !unused_zero(kind, d, a, b, n) {
         return Err(Refusal::NotAnInstruction);
     }
-    Ok((kind.number() << 28) + ((d as u32) << 24) + ((a as u32) << 20) + ((b as u32) << 16) + n as u32)
+    Ok(
+        (kind.number() << 28)
+            + ((d as u32) << 24)
+            + ((a as u32) << 20)
+            + ((b as u32) << 16)
+            + n as u32,
+    )
 }
 
 // Each legal word means one instruction: what is read writes the same word, and what is written reads the same.
 pub fn words_round_trip()
     ensures there { λ _. ⌜ Read-then-write ⌝ }
     ensures back { λ _. ⌜ Write-then-read ⌝ }
-{
-}
+{}
