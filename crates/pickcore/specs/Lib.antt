@@ -1,0 +1,3 @@
+pub mod Record
+pub mod Cycle
+pub mod Model

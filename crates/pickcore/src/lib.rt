@@ -1,0 +1,5 @@
+// The core: results wait in sixteen stages, a cycle goes by seven rules, and callers load, resume, step and run it.
+pub mod pipeline;
+pub mod record;
+mod rules;
+pub mod stages;
