@@ -32,7 +32,7 @@ retires-none : (m : Meaning) (es : List Entry) (r : Retired) → r ≡ retire-fl
 retires-none m [] r h k = refl
 retires-none m (e ∷ es) r h k = settles-none m e es (e .status) r h k
 
-stays : (m : Meaning) (r : Retired) → r ≡ retire-answer m → counter-of r ≡ None → retire-leaves m ≡ m
+pub stays : (m : Meaning) (r : Retired) → r ≡ retire-answer m → counter-of r ≡ None → retire-leaves m ≡ m
 stays m r h k = retires-none m (m .flight) r h k
 
 -- the pipe once the oldest entry is retired, with a new count, from what each call leaves

@@ -85,3 +85,11 @@ impl CycleRecord {
         }
     }
 }
+
+// Why, where and after how many instructions a core stopped: no cause before any run.
+#[derive(Clone, Copy, PartialEq, Eq, Debug)]
+pub struct Report {
+    pub cause: Option<Cause>,
+    pub counter: u16,
+    pub count: u32,
+}

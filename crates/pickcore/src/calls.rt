@@ -1,0 +1,186 @@
+// The calls on a core. A declined call changes nothing.
+ghost use mathlib.Core.Path.{_≡_};
+ghost use mathlib.Core.Bool.{Bool, true};
+ghost use Prim.Native.Nat.{_+_, _<_, _≤_};
+ghost use lib.ListN.{length};
+ghost use Rattle.std.specs.Results.{isErr, isOk};
+ghost use Rattle.pickcore.specs.Limits.{one-to-sixteen, delays-fit};
+ghost use Rattle.pickcore.specs.Calls.{accepted, unloaded, load-refusal, load-leaves, resume-refusal, resume-leaves, step-refusal, stopped, Steps, Runs, report-answer, registers-answer};
+ghost use Rattle.pickcore.specs.Core.{machine-of};
+ghost use Rattle.pickcore.specs.Sound.{Sound};
+use crate::pipeline::Pipeline;
+use crate::record::CycleRecord;
+use crate::record::Ending;
+use crate::record::Report;
+use crate::stages::Stages;
+use crate::state::Core;
+use isa::fault::Cause;
+use isa::refusal::Refusal;
+use isa::unit::UNITS;
+use recovery::Recovery;
+
+// Whether every delay is from 1 to 16.
+fn delays_fit(delays: &[u32]) -> bool
+    ensures { λ r. ⌜ r ≡ delays-fit (now (delays .entry)) ⌝ }
+{
+    for delay in delays {
+        if !one_to_sixteen(*delay) {
+            return false;
+        }
+    }
+    true
+}
+
+fn one_to_sixteen(n: u32) -> bool
+    ensures { λ r. ⌜ r ≡ one-to-sixteen n ⌝ }
+{
+    1 <= n && n <= 16
+}
+
+impl<S: Recovery> Core<S> {
+    // A core never loaded: stopped, with delays, capacity and program length 1, no data words and zeros elsewhere.
+    pub fn new() -> Core<S>
+        ensures value { λ r. ⌜ machine-of meaning r ≡ unloaded ⌝ }
+        ensures sound { λ r. ⌜ Sound (machine-of meaning r) ⌝ }
+    {
+        Core {
+            pipe: Pipeline {
+                scheme: S::fresh(),
+                stages: Stages::empty(),
+                next: 0,
+                count: 0,
+            },
+            delays: [1; UNITS],
+            program_length: 1,
+            data_length: 0,
+            cycles: 0,
+            running: false,
+            requested: false,
+            cause: None,
+        }
+    }
+
+    // Takes the delays of the units, the capacity, and the lengths of program and data; the core is then stopped, all
+    // zero and unrequested.
+    pub fn load(
+        &mut self,
+        delays: [u32; UNITS],
+        capacity: u32,
+        program_length: u32,
+        data_length: u32,
+    ) -> Result<(), Refusal>
+        ensures answer { λ r. ⌜ r ≡ accepted (load-refusal (machine-of meaning (now (self .entry))) delays capacity «program_length» «data_length») ⌝ }
+        ensures leaves { λ _. ⌜ machine-of meaning (now (self .exit)) ≡ load-leaves (machine-of meaning (now (self .entry))) delays capacity «program_length» «data_length» ⌝ }
+        ensures same { λ r. ⌜ (isErr r ≡ true → now (self .exit) ≡ now (self .entry)) ⌝ }
+        ensures made { λ r. ⌜ (isOk r ≡ true → Sound (machine-of meaning (now (self .exit)))) ⌝ }
+    {
+        if self.running {
+            return Err(Refusal::Running);
+        }
+        if !delays_fit(&delays) {
+            return Err(Refusal::Delay);
+        }
+        if !one_to_sixteen(capacity) {
+            return Err(Refusal::Capacity);
+        }
+        if program_length < 1 || program_length > 4096 {
+            return Err(Refusal::Program);
+        }
+        if data_length > 4096 {
+            return Err(Refusal::Data);
+        }
+        let _ = self.pipe.scheme.start(capacity);
+        self.pipe.stages = Stages::empty();
+        self.pipe.next = 0;
+        self.pipe.count = 0;
+        self.delays = delays;
+        self.program_length = program_length;
+        self.data_length = data_length;
+        self.cycles = 0;
+        self.requested = false;
+        self.cause = None;
+        Ok(())
+    }
+
+    // Starts at a counter; count and cycles become 0.
+    pub fn resume(&mut self, counter: u32) -> Result<(), Refusal>
+        ensures answer { λ r. ⌜ r ≡ accepted (resume-refusal (machine-of meaning (now (self .entry))) counter) ⌝ }
+        ensures leaves { λ _. ⌜ machine-of meaning (now (self .exit)) ≡ resume-leaves (machine-of meaning (now (self .entry))) counter ⌝ }
+        ensures same { λ r. ⌜ (isErr r ≡ true → now (self .exit) ≡ now (self .entry)) ⌝ }
+        ensures sound { λ _. ⌜ (Sound (machine-of meaning (now (self .entry))) → Sound (machine-of meaning (now (self .exit)))) ⌝ }
+    {
+        if self.running {
+            return Err(Refusal::Running);
+        }
+        if counter > 65535 {
+            return Err(Refusal::Counter);
+        }
+        self.pipe.next = counter as u16;
+        self.pipe.count = 0;
+        self.cycles = 0;
+        self.running = true;
+        Ok(())
+    }
+
+    // Why the core stopped, at which counter, after how many instructions.
+    pub fn report(&self) -> Result<Report, Refusal>
+        ensures { λ r. ⌜ r ≡ report-answer (machine-of meaning (now (self .entry))) ⌝ }
+    {
+        if self.running {
+            return Err(Refusal::Running);
+        }
+        Ok(Report {
+            cause: self.cause,
+            counter: self.pipe.next,
+            count: self.pipe.count,
+        })
+    }
+
+    // Why a step would be declined, if it would.
+    fn step_refusal(&self, program_length: usize, data_length: usize) -> Option<Refusal>
+        ensures { λ r. ⌜ r ≡ step-refusal (machine-of meaning (now (self .entry))) «program_length» «data_length» ⌝ }
+    {
+        if !self.running {
+            return Some(Refusal::Stopped);
+        }
+        if program_length != self.program_length as usize
+            || data_length != self.data_length as usize
+        {
+            return Some(Refusal::Length);
+        }
+        if self.cycles >= 1000000 {
+            return Some(Refusal::Stretch);
+        }
+        None
+    }
+
+    // Stops with a cause; a request that is met is no longer marked.
+    fn stop(&mut self, cause: Cause)
+        ensures { λ _. ⌜ machine-of meaning (now (self .exit)) ≡ stopped (machine-of meaning (now (self .entry))) cause ⌝ }
+    {
+        self.running = false;
+        self.requested = match cause {
+            Cause::Request => false,
+            _ => self.requested,
+        };
+        self.cause = Some(cause);
+    }
+
+    // Moves the core by one cycle, and tells what it did.
+    pub fn step(&mut self, program: &[u32], data: &mut [u32]) -> Result<CycleRecord, Refusal>
+        ensures steps { λ r. ⌜ Steps timing (machine-of meaning (now (self .entry))) (now (program .entry)) (now («data» .entry)) (record { answer = r; machine = machine-of meaning (now (self .exit)); words = now («data» .exit) }) ⌝ }
+        ensures same { λ r. ⌜ (isErr r ≡ true → now (self .exit) ≡ now (self .entry)) ⌝ }
+        ensures sound { λ _. ⌜ (Sound (machine-of meaning (now (self .entry))) → Sound (machine-of meaning (now (self .exit)))) ⌝ }
+    {
+        if let Some(refusal) = self.step_refusal(program.len(), data.len()) {
+            return Err(refusal);
+        }
+        let (retired, ending) = self.pipe.cycle(&self.delays, self.requested, program, data);
+        let record = CycleRecord::new(retired, ending);
+        self.cycles += 1;
+        if let Ending::Stopped(cause) = ending {
+            self.stop(cause);
+        }
+        Ok(record)
+    }
+}
