@@ -6,3 +6,5 @@ mod Ties
 mod Ways
 mod Sounds
 mod Stepping
+mod Running
+mod Registers

@@ -1,7 +1,7 @@
 -- The calls on a core: which refusal comes first, and what an accepted call leaves.
 use Prim.Native.Nat.{ℕ, _+_, _≤_, _<_}
 use mathlib.Core.Bool.{Bool, true, false, cond, not, _&&_, _||_}
-use mathlib.Core.List.{List, [], _∷_, _++_}
+use mathlib.Core.List.{List, [], _∷_, _++_, map}
 use mathlib.Core.Path.{_≡_}
 use lib.Dec.{eqb, ltb, leb}
 use lib.ListN.{length, getD, take, drop, replicate}
@@ -9,6 +9,7 @@ use Rattle.std.specs.declared.option.Option.{Option}
 use Rattle.std.specs.declared.option.Option.the-variants.{Some, None}
 use Rattle.std.specs.declared.result.Result.{Result}
 use Rattle.std.specs.declared.result.Result.the-variants.{Ok, Err}
+use Rattle.std.specs.Iters.{counting}
 use Rattle.isa.specs.declared.fault.Fault.{Fault}
 use Rattle.isa.specs.declared.fault.Cause.{Cause}
 use Rattle.isa.specs.declared.fault.Cause.the-variants as cause
@@ -170,11 +171,10 @@ abbrev pub word-or-0 : Option ℕ → ℕ
 word-or-0 None = 0
 word-or-0 (Some w) = w
 
--- what look answers for the registers from r on
-abbrev pub looked : Timing → Meaning → ℕ → ℕ → List ℕ
-looked k m r Prim.Native.Nat.zero = []
-looked k m r (Prim.Native.Nat.suc n) = word-or-0 (look-answer k m r) ∷ looked k m (r + 1) n
+-- what look answers for each of the sixteen registers
+abbrev pub looked : Timing → Meaning → List ℕ
+looked k m = map (λ r. word-or-0 (look-answer k m r)) (counting 0 16)
 
 -- all sixteen words with 0, or sixteen zeros with the refusal's number
 abbrev pub registers-answer : Timing → Machine → List ℕ × ℕ
-registers-answer k m = cond (m .running) (replicate 16 0, refusal-number refusal.Running) (looked k (m .pipe .scheme) 0 16, 0)
+registers-answer k m = cond (m .running) (replicate 16 0, refusal-number refusal.Running) (looked k (m .pipe .scheme), 0)

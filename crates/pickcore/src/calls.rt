@@ -1,11 +1,11 @@
 // The calls on a core. A declined call changes nothing.
 ghost use mathlib.Core.Path.{_≡_};
-ghost use mathlib.Core.Bool.{Bool, true};
+ghost use mathlib.Core.Bool.{Bool, true, false};
 ghost use Prim.Native.Nat.{_+_, _<_, _≤_};
 ghost use lib.ListN.{length};
 ghost use Rattle.std.specs.Results.{isErr, isOk};
 ghost use Rattle.pickcore.specs.Limits.{one-to-sixteen, delays-fit};
-ghost use Rattle.pickcore.specs.Calls.{accepted, unloaded, load-refusal, load-leaves, resume-refusal, resume-leaves, step-refusal, stopped, Steps, Runs, report-answer, registers-answer};
+ghost use Rattle.pickcore.specs.Calls.{accepted, unloaded, load-refusal, load-leaves, resume-refusal, resume-leaves, step-refusal, stopped, Steps, Ran, Runs, report-answer, registers-answer};
 ghost use Rattle.pickcore.specs.Core.{machine-of};
 ghost use Rattle.pickcore.specs.Sound.{Sound};
 use crate::pipeline::Pipeline;
@@ -182,5 +182,54 @@ impl<S: Recovery> Core<S> {
             self.stop(cause);
         }
         Ok(record)
+    }
+
+    // Steps until a step is declined, as every one is after a report, or the list is full: one record for each step,
+    // from the front of the list. It answers how many; later places stay.
+    pub fn run(
+        &mut self,
+        program: &[u32],
+        data: &mut [u32],
+        records: &mut [CycleRecord],
+    ) -> Result<usize, Refusal>
+        ensures runs { λ r. ⌜ Runs timing (now (program .entry)) (machine-of meaning (now (self .entry))) (now («data» .entry)) (now (records .entry)) r (now (records .exit)) (machine-of meaning (now (self .exit))) (now («data» .exit)) ⌝ }
+        ensures same { λ r. ⌜ (isErr r ≡ true → now (self .exit) ≡ now (self .entry)) ⌝ }
+        ensures sound { λ _. ⌜ (Sound (machine-of meaning (now (self .entry))) → Sound (machine-of meaning (now (self .exit)))) ⌝ }
+    {
+        if let Some(refusal) = self.step_refusal(program.len(), data.len()) {
+            return Err(refusal);
+        }
+        Ok(self.fill(program, data, records))
+    }
+
+    // The steps of a run that is accepted.
+    fn fill(&mut self, program: &[u32], data: &mut [u32], records: &mut [CycleRecord]) -> usize
+        ensures ran { λ r. ⌜ Ran timing (now (program .entry)) (machine-of meaning (now (self .entry))) (now («data» .entry)) (now (records .entry)) r (now (records .exit)) (machine-of meaning (now (self .exit))) (now («data» .exit)) ⌝ }
+        ensures sound { λ _. ⌜ (Sound (machine-of meaning (now (self .entry))) → Sound (machine-of meaning (now (self .exit)))) ⌝ }
+    {
+        let mut done = 0;
+        while done < records.len() {
+            let Ok(record) = self.step(program, data) else {
+                return done;
+            };
+            records[done] = record;
+            done += 1;
+        }
+        done
+    }
+
+    // All sixteen words with number 0, or sixteen zeros with a refusal's number.
+    pub fn registers(&self) -> ([u32; 16], u32)
+        ensures value { λ r. ⌜ r ≡ registers-answer timing (machine-of meaning (now (self .entry))) ⌝ }
+        ensures settled { λ r. ⌜ (Sound (machine-of meaning (now (self .entry))) → now (self .entry) .running ≡ false → r ≡ (meaning (now (self .entry) .pipe .scheme) .settled, 0)) ⌝ }
+    {
+        let mut words = [0; 16];
+        if self.running {
+            return (words, Refusal::Running.number());
+        }
+        for register in 0..16u8 {
+            words[register as usize] = self.pipe.scheme.look(register).unwrap_or(0);
+        }
+        (words, 0)
     }
 }
