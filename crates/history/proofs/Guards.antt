@@ -1,26 +1,22 @@
 -- The records that wait, and what a delivery and an admission do under it.
-use Prim.Native.Nat.{ℕ, zero, suc, _+_, _-_, _%_, _<_, _≤_}
-use mathlib.Core.Path.{_≡_, refl, ap, sym, _∙_}
-use mathlib.Core.Bool.{Bool, true, false, cond, not, _&&_, _||_}
+use Prim.Native.Nat.{ℕ, zero, suc, _+_, _-_, _<_}
+use mathlib.Core.Path.{_≡_, refl, ap, _∙_}
+use mathlib.Core.Bool.{true, false, cond, not, _&&_, _||_}
 use mathlib.Core.List.{List, [], _∷_, _++_}
-use mathlib.Core.Logic.{_≢_, _⊎_, ⊎-elim}
-use lib.Dec.{eqb, ltb}
-use lib.ListN.{length, take, drop, getD, set}
+use lib.Dec.{ltb}
+use lib.ListN.{length, drop, getD, set}
 use native.Mathlib.Omega.{arith}
 use Rattle.std.specs.declared.option.Option.{Option}
 use Rattle.std.specs.declared.option.Option.the-variants.{Some, None}
-use Rattle.std.proofs.shelf.Tests.{ne-eqb, eq-eqb, eqb-false, eqb-true, ltb-true, or-parts, and-parts, not-true, and-from, cases-bool}
-use Rattle.std.proofs.shelf.Lists.{length-set, set-set, getD-set-same}
+use Rattle.std.proofs.shelf.Tests.{ne-eqb, eq-eqb, ltb-true, or-parts, and-parts, not-true, and-from}
+use Rattle.std.proofs.shelf.Lists.{set-set, getD-set-same}
 use Rattle.recovery.specs.declared.Status.{Status}
-use Rattle.recovery.specs.declared.Status.the-variants.{Pending, Done, Faulted}
 use Rattle.recovery.specs.Meaning.{is-register, put}
 use Rattle.recovery.specs.Search.{or-else}
-use Rattle.recovery.specs.declared.slots.Slot.{Slot}
-use Rattle.recovery.proofs.Flights.{d0}
 use Rattle.history.specs.declared.buffer.HistoryRecord.{HistoryRecord}
 use Rattle.history.specs.declared.buffer.Progress.{Progress}
 use Rattle.history.specs.declared.buffer.Progress.the-variants.{Waiting, Finished, Failed}
-use Rattle.history.specs.Unwind.{record-names, undo, unwind, word-at, status-of, slot-of, slots-of, named, clear, guarded, new-record, first-progress}
+use Rattle.history.specs.Unwind.{undo, unwind, word-at, status-of, slot-of, slots-of, named, clear, guarded}
 use Rattle.history.proofs.Unwinding.{unused, unwind-set, slots-set, length-unwind, newest-progress}
 
 -- a record in another state

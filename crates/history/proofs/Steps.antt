@@ -15,12 +15,9 @@ use Rattle.std.specs.declared.result.Result.the-variants.{Ok, Err}
 use Rattle.std.proofs.shelf.Tests.{and-left, and-right, and-parts, le-ltb, le-leb, lt-leb, cases-bool}
 use Rattle.std.proofs.shelf.Lists.{length-take-le, length-drop, take-append-le, take-more-set, getD-take}
 use Rattle.isa.specs.declared.fault.Fault.{Fault}
-use Rattle.recovery.specs.declared.Status.{Status}
 use Rattle.recovery.specs.declared.Status.the-variants.{Pending, Done, Faulted}
-use Rattle.recovery.specs.declared.Admitted.{Admitted}
 use Rattle.recovery.specs.declared.Admitted.the-variants.{Awaited, Full, Tagged}
-use Rattle.recovery.specs.Meaning.{Entry, Meaning, is-empty, put, place-answer, retire-answer, retire-status, retire-flight, settle, settle-oldest, retire-leaves, has-tag, awaited-destination, held-up, youngest, full, Admits, admit-answer, admit-leaves, new-entry, first-status, with-flight, deliver-answer, deliver-leaves, ended, is-pending}
-use Rattle.recovery.specs.declared.slots.Slot.{Slot}
+use Rattle.recovery.specs.Meaning.{Entry, Meaning, is-empty, put, place-answer, retire-answer, retire-status, retire-flight, settle, settle-oldest, retire-leaves, has-tag, awaited-destination, held-up, youngest, full, Admits, new-entry, first-status, with-flight, deliver-answer, deliver-leaves, ended, is-pending}
 use Rattle.recovery.specs.Slots.{entry-of, flight-of, status-in}
 use Rattle.recovery.proofs.Flights.{d0, flight-length, fresh, pushed, idle, hit}
 use Rattle.history.specs.declared.buffer.HistoryRecord.{HistoryRecord}
@@ -84,6 +81,10 @@ rest-of h = flight-of ((h .first + 1) % 256) (slots-of (younger h) (h .file))
 -- the tag of the next entry
 abbrev next-tag : HistoryBuffer → ℕ
 next-tag h = (h .first + h .count) % 256
+
+-- where the record of a tag is, if it is in use
+abbrev pub place-of : HistoryBuffer → ℕ → ℕ
+place-of h u = (u + (256 - h .first)) % 256
 
 module _ (h : HistoryBuffer) where
   used : length (in-use h) ≡ h .count
@@ -203,7 +204,7 @@ module _ (h : HistoryBuffer) where
 
   -- Delivering, to the record at i of the tag u
 
-  pub delivers-none : (u i : ℕ) (o : Result ℕ Fault) → u < 256 → i ≡ (u + (256 - h .first)) % 256 → (i < h .count → (v : ℕ) → is-pending (status-of (getD (h .records) i unused .progress) v) ≡ false) → (false ≡ deliver-answer (meaning-of h) u) × (meaning-of h ≡ deliver-leaves (meaning-of h) u o)
+  pub delivers-none : (u i : ℕ) (o : Result ℕ Fault) → u < 256 → i ≡ place-of h u → (i < h .count → (v : ℕ) → is-pending (status-of (getD (h .records) i unused .progress) v) ≡ false) → (false ≡ deliver-answer (meaning-of h) u) × (meaning-of h ≡ deliver-leaves (meaning-of h) u o)
   delivers-none u i o l at k =
       let t : h .first < 256 = h .tagged in
       let r = idle (h .first) u (ended o) (slots-of (in-use h) (h .file)) t (λ j q e.
@@ -244,7 +245,7 @@ module _ (h : HistoryBuffer) where
       ap guarded (rewritten i p l ∙ ap (on i) e)
       ∙ guard-set i (progress-by o) (in-use h) (not-waiting o) (h .undisturbed)
 
-  pub delivers : (u i : ℕ) (o : Result ℕ Fault) (p : Progress) (ws : List ℕ) → u < 256 → i ≡ (u + (256 - h .first)) % 256 → p ≡ progress-by o → ws ≡ file-after (h .file) (getD (h .records) i unused .destination) o → i < h .count → getD (h .records) i unused .progress ≡ Waiting → (true ≡ deliver-answer (meaning-of h) u) × (meaning-by (h .capacity) (h .first) (take (h .count) (set (h .records) i (moved-to (getD (h .records) i unused) p))) ws ≡ deliver-leaves (meaning-of h) u o)
+  pub delivers : (u i : ℕ) (o : Result ℕ Fault) (p : Progress) (ws : List ℕ) → u < 256 → i ≡ place-of h u → p ≡ progress-by o → ws ≡ file-after (h .file) (getD (h .records) i unused .destination) o → i < h .count → getD (h .records) i unused .progress ≡ Waiting → (true ≡ deliver-answer (meaning-of h) u) × (meaning-by (h .capacity) (h .first) (take (h .count) (set (h .records) i (moved-to (getD (h .records) i unused) p))) ws ≡ deliver-leaves (meaning-of h) u o)
   delivers u i o p ws l at ep ew lt w =
       let t : h .first < 256 = h .tagged in
       let lu : i < length (in-use h) = omega (arith, used) in

@@ -1,29 +1,27 @@
 -- Unwinding, record by record, and the search over the records.
-use Prim.Native.Nat.{ℕ, zero, suc, _+_, _-_, _%_, _<_, _≤_}
+use Prim.Native.Nat.{ℕ, suc, _+_, _-_, _%_, _<_}
 use mathlib.Core.Path.{_≡_, refl, ap, sym, _∙_}
-use mathlib.Core.Bool.{Bool, true, false, cond, not, _&&_, _||_}
+use mathlib.Core.Bool.{Bool, true, false, cond, _||_}
 use mathlib.Core.List.{List, [], _∷_, _++_}
 use mathlib.Core.Logic.{_≢_, _⊎_, ⊎-elim}
-use lib.Dec.{eqb, ltb}
-use lib.ListN.{length, take, drop, getD, set}
+use lib.Dec.{eqb}
+use lib.ListN.{length, take, getD, set}
 use native.Mathlib.Omega.{arith}
 use native.Mathlib.Numerals.{add-one}
 use Rattle.std.specs.declared.option.Option.{Option}
 use Rattle.std.specs.declared.option.Option.the-variants.{Some, None}
-use Rattle.std.proofs.shelf.Tests.{ne-eqb, eq-eqb, eqb-false, eqb-true, ltb-true, or-parts, and-parts, not-true, and-from, cases-bool}
-use Rattle.std.proofs.shelf.Lists.{length-take, getD-take, length-set, set-set, set-comm, set-getD, getD-set-same, getD-set-other}
+use Rattle.std.proofs.shelf.Tests.{eqb-false, eqb-true, or-parts, cases-bool}
+use Rattle.std.proofs.shelf.Lists.{length-take, getD-take, length-set, set-set, set-comm, set-getD, getD-set-other}
 use Rattle.recovery.specs.declared.Status.{Status}
-use Rattle.recovery.specs.declared.Status.the-variants.{Pending, Done, Faulted}
 use Rattle.recovery.specs.Meaning.{is-register, put, youngest}
 use Rattle.recovery.specs.Search.{or-else, last-index, behind}
-use Rattle.recovery.specs.declared.slots.Slot.{Slot}
-use Rattle.recovery.specs.Slots.{slot-names, entry-of, flight-of}
+use Rattle.recovery.specs.Slots.{entry-of, flight-of}
 use Rattle.recovery.specs.Slots.{status-in}
-use Rattle.recovery.proofs.Flights.{d0, in-or, within}
+use Rattle.recovery.proofs.Flights.{in-or, within}
 use Rattle.history.specs.declared.buffer.HistoryRecord.{HistoryRecord}
 use Rattle.history.specs.declared.buffer.Progress.{Progress}
-use Rattle.history.specs.declared.buffer.Progress.the-variants.{Waiting, Finished, Failed}
-use Rattle.history.specs.Unwind.{record-names, undo, unwind, word-at, status-of, slot-of, slots-of, named, clear, guarded, new-record, first-progress}
+use Rattle.history.specs.declared.buffer.Progress.the-variants.{Waiting}
+use Rattle.history.specs.Unwind.{record-names, undo, unwind, word-at, status-of, slot-of, slots-of, named, new-record}
 
 -- what an array's read takes past its end
 abbrev pub unused : HistoryRecord

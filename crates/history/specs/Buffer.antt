@@ -4,8 +4,7 @@ use mathlib.Core.List.{List}
 use lib.ListN.{take}
 use Rattle.std.specs.declared.option.Option.{Option}
 use Rattle.recovery.specs.declared.Status.{Status}
-use Rattle.recovery.specs.declared.slots.Slot.{Slot}
-use Rattle.recovery.specs.Meaning.{Entry, Meaning, youngest}
+use Rattle.recovery.specs.Meaning.{Meaning, youngest}
 use Rattle.recovery.specs.Slots.{flight-of, status-in}
 use Rattle.history.specs.Unwind.{unwind, slots-of}
 use Rattle.history.specs.declared.buffer.HistoryRecord.{HistoryRecord}

@@ -148,10 +148,8 @@ impl HistoryBuffer {
             return true;
         }
         match self.newest(register) {
-            None => false,
-            Some(Status::Done(_)) => false,
-            Some(Status::Pending) => true,
-            Some(Status::Faulted(_)) => true,
+            None | Some(Status::Done(_)) => false,
+            Some(Status::Pending) | Some(Status::Faulted(_)) => true,
         }
     }
 }
@@ -195,8 +193,7 @@ pub impl Recovery for HistoryBuffer as HistoryBufferRecovery {
             return Admitted::Full;
         }
         let tag = self.first.wrapping_add(self.count as u8);
-        let made = new_record(&self.file, counter, destination);
-        self.records[self.count] = made;
+        self.records[self.count] = new_record(&self.file, counter, destination);
         self.count += 1;
         Admitted::Tagged(tag)
     }
@@ -206,20 +203,14 @@ pub impl Recovery for HistoryBuffer as HistoryBufferRecovery {
         if i >= self.count {
             return false;
         }
-        let old = self.records[i];
-        match old.progress {
+        let found = self.records[i];
+        match found.progress {
             Progress::Waiting => {
-                let progress = store(&mut self.file, old.destination, result);
-                self.records[i] = HistoryRecord {
-                    counter: old.counter,
-                    destination: old.destination,
-                    old: old.old,
-                    progress,
-                };
+                let progress = store(&mut self.file, found.destination, result);
+                self.records[i] = HistoryRecord { progress, ..found };
                 true
             }
-            Progress::Finished => false,
-            Progress::Failed(_) => false,
+            Progress::Finished | Progress::Failed(_) => false,
         }
     }
 

@@ -9,7 +9,7 @@ returns-then-self c = admits-full (c .args .self .now) (c .args .counter) (c .ar
 
 pub ghost-self : need.ghost-self
 ghost-self c = (
-  (c .args .self .now .sizes .0, length-set (c .args .self .now .records) (c .args .self .now .count) (c .new-record-made .result) ∙ c .args .self .now .sizes .1),
+  (c .args .self .now .sizes .0, length-set (c .args .self .now .records) (c .args .self .now .count) (c .new-record .result) ∙ c .args .self .now .sizes .1),
   (
     c .args .self .now .limits,
     (
@@ -17,7 +17,7 @@ ghost-self c = (
       (
         c .args .self .now .tagged,
         (
-          guarded-more (c .args .self .now) (c .args .counter) (c .args .destination) (c .new-record-made .result) (c .if-awaits .ensures tt) (c .new-record-made .ensures) (c .if-self .left),
+          guarded-more (c .args .self .now) (c .args .counter) (c .args .destination) (c .new-record .result) (c .if-awaits .ensures tt) (c .new-record .ensures) (c .if-self .left),
           tt,
         ),
       ),
@@ -26,4 +26,4 @@ ghost-self c = (
 )
 
 pub returns : need.returns
-returns c = admits-tagged (c .args .self .now) (c .args .counter) (c .args .destination) (c .new-record-made .result) (c .if-awaits .ensures tt) (c .new-record-made .ensures) (c .if-self .left)
+returns c = admits-tagged (c .args .self .now) (c .args .counter) (c .args .destination) (c .new-record .result) (c .if-awaits .ensures tt) (c .new-record .ensures) (c .if-self .left)
