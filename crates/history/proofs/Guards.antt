@@ -1,4 +1,4 @@
--- The records that wait, and what a delivery and an admission do under it.
+-- The invariant that a record that waits is clear of younger ones: what it gives a delivery, and how it is kept.
 use Prim.Native.Nat.{ℕ, zero, suc, _+_, _-_, _<_}
 use mathlib.Core.Path.{_≡_, refl, ap, _∙_}
 use mathlib.Core.Bool.{true, false, cond, not, _&&_, _||_}
@@ -19,7 +19,7 @@ use Rattle.history.specs.declared.buffer.Progress.the-variants.{Waiting, Finis
 use Rattle.history.specs.Unwind.{undo, unwind, word-at, status-of, slot-of, slots-of, named, clear, guarded}
 use Rattle.history.proofs.Unwinding.{unused, unwind-set, slots-set, length-unwind, newest-progress}
 
--- a record in another state
+-- a record that has made progress
 abbrev pub moved-to : HistoryRecord → Progress → HistoryRecord
 moved-to x s = record { counter = x .counter; destination = x .destination; old = x .old; progress = s }
 
@@ -41,7 +41,7 @@ behind-it (Some d) v w zs ws l h =
       ap (λ g. getD g d 0) u ∙ getD-set-same (unwind zs ws) d w 0 (omega (arith, length-unwind zs ws)),
     )
 
--- one record changes its state, and the file may change with it
+-- one record makes progress, and the file may change with it
 pub changed : (i : ℕ) (s : Progress) (st : Status) (ws vs : List ℕ) (xs : List HistoryRecord) → i < length xs
     → put (unwind (drop (suc i) xs) vs) (getD xs i unused .destination) (getD xs i unused .old) ≡ put (unwind (drop (suc i) xs) ws) (getD xs i unused .destination) (getD xs i unused .old)
     → slots-of (drop (suc i) xs) vs ≡ slots-of (drop (suc i) xs) ws
@@ -76,7 +76,8 @@ guard-set (suc i) s (x ∷ xs) ok g =
     let p = and-parts (clear (x .progress) (x .destination) xs) (guarded xs) g in
     and-from (clear (x .progress) (x .destination) (set xs i (moved-to (getD xs i unused) s))) (guarded (set xs i (moved-to (getD xs i unused) s))) (clear-set (x .progress) (x .destination) i s xs ∙ p .0) (guard-set i s xs ok (p .1))
 
--- an admission
+-- An admission
+
 named-push : (d : ℕ) (y : HistoryRecord) (xs : List HistoryRecord) → is-register (y .destination) d ≡ false → named d xs ≡ false → named d (xs ++ (y ∷ [])) ≡ false
 named-push d y [] h k = ap (λ b. b || false) h
 named-push d y (x ∷ xs) h k =

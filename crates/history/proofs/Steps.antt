@@ -18,6 +18,7 @@ use Rattle.isa.specs.declared.fault.Fault.{Fault}
 use Rattle.recovery.specs.declared.Status.the-variants.{Pending, Done, Faulted}
 use Rattle.recovery.specs.declared.Admitted.the-variants.{Awaited, Full, Tagged}
 use Rattle.recovery.specs.Meaning.{Entry, Meaning, is-empty, put, place-answer, retire-answer, retire-status, retire-flight, settle, settle-oldest, retire-leaves, has-tag, awaited-destination, held-up, youngest, full, Admits, new-entry, first-status, with-flight, deliver-answer, deliver-leaves, ended, is-pending}
+use Rattle.recovery.specs.declared.slots.Slot.{Slot}
 use Rattle.recovery.specs.Slots.{entry-of, flight-of, status-in}
 use Rattle.recovery.proofs.Flights.{d0, flight-length, fresh, pushed, idle, hit}
 use Rattle.history.specs.declared.buffer.HistoryRecord.{HistoryRecord}
@@ -25,15 +26,17 @@ use Rattle.history.specs.declared.buffer.Progress.{Progress}
 use Rattle.history.specs.declared.buffer.Progress.the-variants.{Waiting, Finished, Failed}
 use Rattle.history.specs.declared.buffer.HistoryBuffer.{HistoryBuffer}
 use Rattle.history.specs.Unwind.{unwind, word-at, status-of, slot-of, slots-of, clear, guarded, new-record, first-progress, progress-by, file-after}
-use Rattle.history.specs.Buffer.{in-use, meaning-by, meaning-of}
+use Rattle.history.specs.Buffer.{in-use, meaning-by, meaning-of, younger, without-oldest}
 use Rattle.history.proofs.Unwinding.{unused, length-put, slots-length, unwind-push, slots-push, undo-new, put-back, newest-is, newest-progress, seen}
 use Rattle.history.proofs.Guards.{moved-to, guard-at, behind-it, changed, guard-set, guard-push, Idle}
 
+-- the front of what is in use
 front : (n : ℕ) (xs : List HistoryRecord) → 0 < n → 0 < length xs → take n xs ≡ getD xs 0 unused ∷ take (n - 1) (drop 1 xs)
 front n [] h k = absurd (omega arith)
 front zero (x ∷ xs) h k = absurd (omega arith)
 front (suc n) (x ∷ xs) h k = let e : suc n - 1 ≡ n = omega arith in rw e
 
+-- the slot of the record at j
 slot-at : (j : ℕ) (xs : List HistoryRecord) (ws : List ℕ) → j < length xs → getD (slots-of xs ws) j d0 ≡ slot-of (getD xs j unused) (unwind (drop (suc j) xs) ws)
 slot-at j [] ws l = absurd (omega arith)
 slot-at zero (x ∷ xs) ws l = refl
@@ -62,10 +65,6 @@ pub length-after : (ws : List ℕ) (d : Option ℕ) (o : Result ℕ Fault) → l
 length-after ws d (Ok w) = length-put ws d w
 length-after ws d (Err f) = refl
 
--- the records younger than the oldest
-abbrev pub younger : HistoryBuffer → List HistoryRecord
-younger h = take (h .count - 1) (drop 1 (h .records))
-
 -- the oldest record, where something is in flight
 abbrev pub head : HistoryBuffer → HistoryRecord
 head h = getD (h .records) 0 unused
@@ -73,10 +72,6 @@ head h = getD (h .records) 0 unused
 -- the word of the oldest record, once it is finished
 abbrev pub head-word : HistoryBuffer → ℕ
 head-word h = word-at (unwind (younger h) (h .file)) (head h .destination)
-
--- the flight without the oldest entry
-abbrev pub rest-of : HistoryBuffer → List Entry
-rest-of h = flight-of ((h .first + 1) % 256) (slots-of (younger h) (h .file))
 
 -- the tag of the next entry
 abbrev next-tag : HistoryBuffer → ℕ
@@ -99,7 +94,7 @@ module _ (h : HistoryBuffer) where
   use-front : (h .count ≡ 0 → ⊥) → in-use h ≡ head h ∷ younger h
   use-front ne = front (h .count) (h .records) (omega arith) (omega (arith, h .sizes))
 
-  pub flight-front : (h .count ≡ 0 → ⊥) → meaning-of h .flight ≡ entry-of (h .first) (slot-of (head h) (unwind (younger h) (h .file))) ∷ rest-of h
+  pub flight-front : (h .count ≡ 0 → ⊥) → meaning-of h .flight ≡ entry-of (h .first) (slot-of (head h) (unwind (younger h) (h .file))) ∷ without-oldest h .flight
   flight-front ne = ap (λ xs. flight-of (h .first) (slots-of xs (h .file))) (use-front ne)
 
   pub no-place : (r : ℕ) → ((h .count ≡ 0 → ⊥) ⊎ ((h .count ≡ 0) × (16 ≤ r))) → place-answer (meaning-of h) r ≡ false
@@ -111,10 +106,11 @@ module _ (h : HistoryBuffer) where
 
   -- Retiring
 
-  pub retire-as : (p : Progress) → (h .count ≡ 0 → ⊥) → head h .progress ≡ p → (retire-status (head h .counter) (status-of p (head-word h)) ≡ retire-answer (meaning-of h)) × (settle (meaning-of h) (rest-of h) (head h .destination) (status-of p (head-word h)) ≡ retire-leaves (meaning-of h))
+  -- what retire answers and leaves, by the progress of the oldest record
+  pub retire-as : (p : Progress) → (h .count ≡ 0 → ⊥) → head h .progress ≡ p → (retire-status (head h .counter) (status-of p (head-word h)) ≡ retire-answer (meaning-of h)) × (settle (meaning-of h) (without-oldest h .flight) (head h .destination) (status-of p (head-word h)) ≡ retire-leaves (meaning-of h))
   retire-as p ne e = (
     sym (ap retire-flight (flight-front ne) ∙ ap (λ k. retire-status (head h .counter) (status-of k (head-word h))) e),
-    sym (ap (settle-oldest (meaning-of h)) (flight-front ne) ∙ ap (λ k. settle (meaning-of h) (rest-of h) (head h .destination) (status-of k (head-word h))) e),
+    sym (ap (settle-oldest (meaning-of h)) (flight-front ne) ∙ ap (λ k. settle (meaning-of h) (without-oldest h .flight) (head h .destination) (status-of k (head-word h))) e),
   )
 
   -- the settled words once the oldest is retired
@@ -128,11 +124,11 @@ module _ (h : HistoryBuffer) where
       ap (take (h .count - 1)) e
       ∙ take-append-le (h .count - 1) (drop 1 (h .records)) (take 1 (h .records)) (omega (arith, length-drop 1 (h .records), h .sizes, h .limits, h .room))
 
-  pub retires : (h .count ≡ 0 → ⊥) → head h .progress ≡ Finished → (xs : List HistoryRecord) → xs ≡ drop 1 (h .records) ++ take 1 (h .records) → meaning-by (h .capacity) ((h .first + 1) % 256) (take (h .count - 1) xs) (h .file) ≡ retire-leaves (meaning-of h)
-  retires ne p xs e =
-      ap (λ ys. meaning-by (h .capacity) ((h .first + 1) % 256) ys (h .file)) (shifted xs e)
-      ∙ (ap (λ ws. record { settled = ws; capacity = h .capacity; flight = rest-of h }) (settled-on ne)
-      ∙ retire-as Finished ne p .1)
+  pub retires : (h .count ≡ 0 → ⊥) → head h .progress ≡ Finished → without-oldest h ≡ retire-leaves (meaning-of h)
+  retires ne p = ap (λ ws. record { settled = ws; capacity = h .capacity; flight = without-oldest h .flight }) (settled-on ne) ∙ retire-as Finished ne p .1
+
+  pub lets-go : (xs : List HistoryRecord) → xs ≡ drop 1 (h .records) ++ take 1 (h .records) → meaning-by (h .capacity) ((h .first + 1) % 256) (take (h .count - 1) xs) (h .file) ≡ without-oldest h
+  lets-go xs e = ap (λ ys. meaning-by (h .capacity) ((h .first + 1) % 256) ys (h .file)) (shifted xs e)
 
   pub guarded-on : (h .count ≡ 0 → ⊥) → (xs : List HistoryRecord) → xs ≡ drop 1 (h .records) ++ take 1 (h .records) → guarded (take (h .count - 1) xs) ≡ true
   guarded-on ne xs e =
@@ -183,6 +179,7 @@ module _ (h : HistoryBuffer) where
       ∙ (ap (λ ws. record { settled = ws; capacity = h .capacity; flight = flight-of (h .first) (slots-of (in-use h ++ (new-record (h .file) c d ∷ [])) (h .file)) }) (settled-more c d)
       ∙ ap (with-flight (meaning-of h)) (flight-more c d)))
 
+  -- no record waits for a destination that is not awaited
   idle-destination : (d : Option ℕ) → false ≡ awaited-destination (meaning-of h) d → Idle d (in-use h)
   idle-destination None k r q w = let z : _≡_ {A = ℕ} 0 1 = cc in omega arith
   idle-destination (Some e) k r q w =
@@ -204,6 +201,7 @@ module _ (h : HistoryBuffer) where
 
   -- Delivering, to the record at i of the tag u
 
+  -- a delivery to a tag whose record does not wait
   pub delivers-none : (u i : ℕ) (o : Result ℕ Fault) → u < 256 → i ≡ place-of h u → (i < h .count → (v : ℕ) → is-pending (status-of (getD (h .records) i unused .progress) v) ≡ false) → (false ≡ deliver-answer (meaning-of h) u) × (meaning-of h ≡ deliver-leaves (meaning-of h) u o)
   delivers-none u i o l at k =
       let t : h .first < 256 = h .tagged in
@@ -216,50 +214,65 @@ module _ (h : HistoryBuffer) where
       ∙ k (omega arith) (word-at (unwind (drop (suc j) (in-use h)) (h .file)) (getD (in-use h) j unused .destination)))) in
       (sym (r .0), ap (with-flight (meaning-of h)) (sym (r .1)))
 
+  -- the record at i
+  abbrev at-place : ℕ → HistoryRecord
+  at-place i = getD (in-use h) i unused
+
   -- the records in use once the one at i has moved on
   abbrev on : ℕ → Progress → List HistoryRecord
-  on i p = set (in-use h) i (moved-to (getD (in-use h) i unused) p)
+  on i p = set (in-use h) i (moved-to (at-place i) p)
+
+  -- the same, out of the array
+  abbrev pub array-on : ℕ → Progress → List HistoryRecord
+  array-on i p = take (h .count) (set (h .records) i (moved-to (getD (h .records) i unused) p))
 
   -- the file once the result of the record at i has come
   abbrev filed : ℕ → Result ℕ Fault → List ℕ
-  filed i o = file-after (h .file) (getD (in-use h) i unused .destination) o
+  filed i o = file-after (h .file) (at-place i .destination) o
 
-  moved : (i : ℕ) (o : Result ℕ Fault) → i < h .count → getD (h .records) i unused .progress ≡ Waiting → (unwind (on i (progress-by o)) (filed i o) ≡ meaning-of h .settled) × (slots-of (on i (progress-by o)) (filed i o) ≡ set (slots-of (in-use h) (h .file)) i (record { counter = getD (in-use h) i unused .counter; destination = getD (in-use h) i unused .destination; status = ended o }))
+  -- the slots once the result of the record at i has come
+  abbrev slots-on : ℕ → Result ℕ Fault → HistoryRecord → List Slot
+  slots-on i o x = set (slots-of (in-use h) (h .file)) i (record { counter = x .counter; destination = x .destination; status = ended o })
+
+  -- a result leaves the settled words, and turns its own slot alone
+  moved : (i : ℕ) (o : Result ℕ Fault) → i < h .count → at-place i .progress ≡ Waiting → (unwind (on i (progress-by o)) (filed i o) ≡ meaning-of h .settled) × (slots-of (on i (progress-by o)) (filed i o) ≡ slots-on i o (at-place i))
   moved i (Ok w) l p =
       let lu : i < length (in-use h) = omega (arith, used) in
       let g = guard-at i (in-use h) lu (h .undisturbed) in
-      let q : getD (in-use h) i unused .progress ≡ Waiting = ap (λ x. x .progress) (getD-take (h .count) (h .records) i unused l) ∙ p in
-      let b = behind-it (getD (in-use h) i unused .destination) (getD (in-use h) i unused .old) w (drop (suc i) (in-use h)) (h .file) (h .sizes .0) (sym (ap (λ s. clear s (getD (in-use h) i unused .destination) (drop (suc i) (in-use h))) q) ∙ g) in
-      changed i Finished (Done w) (h .file) (put (h .file) (getD (in-use h) i unused .destination) w) (in-use h) lu (b .0) (b .1) (ap Done (b .2))
+      let b = behind-it (at-place i .destination) (at-place i .old) w (drop (suc i) (in-use h)) (h .file) (h .sizes .0) (sym (ap (λ s. clear s (at-place i .destination) (drop (suc i) (in-use h))) p) ∙ g) in
+      changed i Finished (Done w) (h .file) (put (h .file) (at-place i .destination) w) (in-use h) lu (b .0) (b .1) (ap Done (b .2))
   moved i (Err f) l p =
       let lu : i < length (in-use h) = omega (arith, used) in
       changed i (Failed f) (Faulted f) (h .file) (h .file) (in-use h) lu refl refl refl
 
-  rewritten : (i : ℕ) (p : Progress) → i < h .count → take (h .count) (set (h .records) i (moved-to (getD (h .records) i unused) p)) ≡ on i p
-  rewritten i p l =
+  turned : (i : ℕ) (o : Result ℕ Fault) → i < h .count → at-place i .progress ≡ Waiting → meaning-by (h .capacity) (h .first) (on i (progress-by o)) (filed i o) ≡ with-flight (meaning-of h) (flight-of (h .first) (slots-on i o (at-place i)))
+  turned i o l p =
+      let m = moved i o l p in
+      ap (λ ws. record { settled = ws; capacity = h .capacity; flight = flight-of (h .first) (slots-of (on i (progress-by o)) (filed i o)) }) (m .0)
+      ∙ ap (λ ss. with-flight (meaning-of h) (flight-of (h .first) ss)) (m .1)
+
+  rewritten : (i : ℕ) (o : Result ℕ Fault) (p : Progress) → p ≡ progress-by o → i < h .count → array-on i p ≡ on i (progress-by o)
+  rewritten i o p e l =
       take-set-lt (h .count) (h .records) i (moved-to (getD (h .records) i unused) p) l
-      ∙ ap (λ x. set (in-use h) i (moved-to x p)) (sym (getD-take (h .count) (h .records) i unused l))
+      ∙ (ap (λ x. set (in-use h) i (moved-to x p)) (sym (getD-take (h .count) (h .records) i unused l))
+      ∙ ap (on i) e)
 
-  pub guarded-then : (i : ℕ) (o : Result ℕ Fault) (p : Progress) → p ≡ progress-by o → i < h .count → guarded (take (h .count) (set (h .records) i (moved-to (getD (h .records) i unused) p))) ≡ true
-  guarded-then i o p e l =
-      ap guarded (rewritten i p l ∙ ap (on i) e)
-      ∙ guard-set i (progress-by o) (in-use h) (not-waiting o) (h .undisturbed)
+  pub guarded-then : (i : ℕ) (o : Result ℕ Fault) (p : Progress) → p ≡ progress-by o → i < h .count → guarded (array-on i p) ≡ true
+  guarded-then i o p e l = ap guarded (rewritten i o p e l) ∙ guard-set i (progress-by o) (in-use h) (not-waiting o) (h .undisturbed)
 
-  pub delivers : (u i : ℕ) (o : Result ℕ Fault) (p : Progress) (ws : List ℕ) → u < 256 → i ≡ place-of h u → p ≡ progress-by o → ws ≡ file-after (h .file) (getD (h .records) i unused .destination) o → i < h .count → getD (h .records) i unused .progress ≡ Waiting → (true ≡ deliver-answer (meaning-of h) u) × (meaning-by (h .capacity) (h .first) (take (h .count) (set (h .records) i (moved-to (getD (h .records) i unused) p))) ws ≡ deliver-leaves (meaning-of h) u o)
+  pub delivers : (u i : ℕ) (o : Result ℕ Fault) (p : Progress) (ws : List ℕ) → u < 256 → i ≡ place-of h u → p ≡ progress-by o → ws ≡ file-after (h .file) (getD (h .records) i unused .destination) o → i < h .count → getD (h .records) i unused .progress ≡ Waiting → (true ≡ deliver-answer (meaning-of h) u) × (meaning-by (h .capacity) (h .first) (array-on i p) ws ≡ deliver-leaves (meaning-of h) u o)
   delivers u i o p ws l at ep ew lt w =
       let t : h .first < 256 = h .tagged in
       let lu : i < length (in-use h) = omega (arith, used) in
       let g = getD-take (h .count) (h .records) i unused lt in
+      let wg : at-place i .progress ≡ Waiting = ap (λ x. x .progress) g ∙ w in
       let sa = slot-at i (in-use h) (h .file) lu in
-      let sp : getD (slots-of (in-use h) (h .file)) i d0 .status ≡ Pending =
-      ap (λ x. x .status) sa ∙ ap (λ k. status-of k (word-at (unwind (drop (suc i) (in-use h)) (h .file)) (getD (in-use h) i unused .destination))) (ap (λ x. x .progress) g ∙ w) in
+      let sp : getD (slots-of (in-use h) (h .file)) i d0 .status ≡ Pending = ap (λ x. x .status) sa ∙ ap (λ k. status-of k (word-at (unwind (drop (suc i) (in-use h)) (h .file)) (at-place i .destination))) wg in
       let k = hit (h .first) u i (ended o) (slots-of (in-use h) (h .file)) t (omega (arith, slots-used)) (omega (arith, slots-used, h .limits, h .room)) (omega arith) sp in
-      let m = moved i o lt w in (
+      let sd = ap (λ x. with-flight (meaning-of h) (flight-of (h .first) (set (slots-of (in-use h) (h .file)) i (record { counter = x .counter; destination = x .destination; status = ended o })))) (sym sa) in (
         sym (k .0),
-        ap (λ xs. meaning-by (h .capacity) (h .first) xs ws) (rewritten i p lt ∙ ap (on i) ep)
+        ap (λ xs. meaning-by (h .capacity) (h .first) xs ws) (rewritten i o p ep lt)
             ∙ (ap (meaning-by (h .capacity) (h .first) (on i (progress-by o))) (ew ∙ ap (λ x. file-after (h .file) (x .destination) o) (sym g))
-            ∙ (ap (λ rs. record { settled = rs; capacity = h .capacity; flight = flight-of (h .first) (slots-of (on i (progress-by o)) (filed i o)) }) (m .0)
-            ∙ (ap (λ ss. with-flight (meaning-of h) (flight-of (h .first) ss)) (m .1)
-            ∙ (ap (λ x. with-flight (meaning-of h) (flight-of (h .first) (set (slots-of (in-use h) (h .file)) i (record { counter = x .counter; destination = x .destination; status = ended o })))) (sym sa)
-            ∙ ap (with-flight (meaning-of h)) (sym (k .1)))))),
+            ∙ (turned i o lt wg
+            ∙ (sd ∙ ap (with-flight (meaning-of h)) (sym (k .1))))),
       )

@@ -1,7 +1,7 @@
 -- What a history buffer means.
-use Prim.Native.Nat.{ℕ}
+use Prim.Native.Nat.{ℕ, _+_, _-_, _%_}
 use mathlib.Core.List.{List}
-use lib.ListN.{take}
+use lib.ListN.{take, drop}
 use Rattle.std.specs.declared.option.Option.{Option}
 use Rattle.recovery.specs.declared.Status.{Status}
 use Rattle.recovery.specs.Meaning.{Meaning, youngest}
@@ -25,3 +25,11 @@ meaning-of h = meaning-by (h .capacity) (h .first) (in-use h) (h .file)
 -- the status of the youngest entry that names a register
 abbrev pub newest-of : HistoryBuffer → ℕ → Option Status
 newest-of h r = status-in (youngest r (meaning-of h .flight))
+
+-- the records younger than the oldest
+abbrev pub younger : HistoryBuffer → List HistoryRecord
+younger h = take (h .count - 1) (drop 1 (h .records))
+
+-- the meaning once the oldest record is let go: the file stays
+abbrev pub without-oldest : HistoryBuffer → Meaning
+without-oldest h = meaning-by (h .capacity) ((h .first + 1) % 256) (younger h) (h .file)

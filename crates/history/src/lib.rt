@@ -7,7 +7,7 @@ ghost use Rattle.recovery.specs.declared.Timing.{Timing};
 ghost use Rattle.recovery.specs.declared.Timing.the-variants.{Early};
 ghost use Rattle.recovery.specs.Meaning.{awaited-destination, blank};
 ghost use Rattle.history.specs.Unwind.{record-names, unwind, word-at, first-progress, new-record, progress-by, file-after};
-ghost use Rattle.history.specs.Buffer.{meaning-of, newest-of};
+ghost use Rattle.history.specs.Buffer.{meaning-of, newest-of, without-oldest};
 
 pub mod buffer;
 
@@ -152,6 +152,16 @@ impl HistoryBuffer {
             Some(Status::Pending) | Some(Status::Faulted(_)) => true,
         }
     }
+
+    // Lets the oldest record go. No word moves: its result is in the file, and only its old word is lost.
+    fn let_oldest_go(&mut self)
+        requires { ⌜ 0 < now self .count ⌝ }
+        ensures { λ _. ⌜ meaning-of (now (self .exit)) ≡ without-oldest (now (self .entry)) ⌝ }
+    {
+        self.records.rotate_left(1);
+        self.count -= 1;
+        self.first = self.first.wrapping_add(1);
+    }
 }
 
 pub impl Recovery for HistoryBuffer as HistoryBufferRecovery {
@@ -236,7 +246,6 @@ pub impl Recovery for HistoryBuffer as HistoryBufferRecovery {
         }
     }
 
-    // No word moves: the oldest record's result is in the file, and only its old word is let go.
     fn retire(&mut self) -> Retired {
         if self.count == 0 {
             return Retired::Nothing;
@@ -246,9 +255,7 @@ pub impl Recovery for HistoryBuffer as HistoryBufferRecovery {
             Progress::Waiting => Retired::Nothing,
             Progress::Failed(fault) => Retired::Faulted(head.counter, fault),
             Progress::Finished => {
-                self.records.rotate_left(1);
-                self.count -= 1;
-                self.first = self.first.wrapping_add(1);
+                self.let_oldest_go();
                 Retired::Settled(head.counter)
             }
         }

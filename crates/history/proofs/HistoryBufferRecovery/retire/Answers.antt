@@ -1,25 +1,7 @@
-use native.Mathlib.Omega.{arith}
+use mathlib.Core.Path.{_∙_}
 use Rattle.history.specs.declared.buffer.Progress.the-variants.{Waiting, Finished, Failed}
-use Rattle.history.proofs.Steps.{retire-as, retires, guarded-on}
+use Rattle.history.proofs.Steps.{retire-as, retires}
 use Rattle.history.proofs.HistoryBufferRecovery.retire.Needs as need
-
-pub ghost-self : need.ghost-self
-ghost-self c = (
-  (c .args .self .now .sizes .0, omega (arith, c .rotate-left .ensures .len, c .args .self .now .sizes)),
-  (
-    c .args .self .now .limits,
-    (
-      omega (arith, c .args .self .now .room),
-      (
-        omega arith,
-        (
-          guarded-on (c .args .self .now) (c .if-self-eq0 .left) (c .rotate-left .last .self) (c .rotate-left .ensures .after),
-          tt,
-        ),
-      ),
-    ),
-  ),
-)
 
 pub returns-in-Waiting : need.returns-in-Waiting
 returns-in-Waiting c =
@@ -32,7 +14,8 @@ returns-in-Failed c =
     record { answer = r .0; leaves = r .1 }
 
 pub returns-in-Finished : need.returns-in-Finished
-returns-in-Finished c = record {
-  answer = retire-as (c .args .self .now) Finished (c .if-self-eq0 .left) (c .in-Finished .is) .0;
-  leaves = retires (c .args .self .now) (c .if-self-eq0 .left) (c .in-Finished .is) (c .rotate-left .last .self) (c .rotate-left .ensures .after);
-}
+returns-in-Finished c =
+    record {
+      answer = retire-as (c .args .self .now) Finished (c .if-self-eq0 .left) (c .in-Finished .is) .0;
+      leaves = c .let-oldest-go .ensures ∙ retires (c .args .self .now) (c .if-self-eq0 .left) (c .in-Finished .is);
+    }
