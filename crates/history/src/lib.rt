@@ -1,9 +1,8 @@
 // A history buffer: a recovery scheme that writes each result into its one file at once, and backs out by putting the
 // old words back, from the youngest record to the oldest.
 ghost use mathlib.Core.Path.{_≡_};
-ghost use Prim.Native.Nat.{ℕ, _+_, _≤_, _<_};
-ghost use lib.ListN.{length, take};
-ghost use Rattle.recovery.specs.declared.Timing.{Timing};
+ghost use Prim.Native.Nat.{_≤_, _<_};
+ghost use lib.ListN.{take};
 ghost use Rattle.recovery.specs.declared.Timing.the-variants.{Early};
 ghost use Rattle.recovery.specs.Meaning.{awaited-destination, blank};
 ghost use Rattle.history.specs.Unwind.{record-names, unwind, word-at, first-progress, new-record, progress-by, file-after};
