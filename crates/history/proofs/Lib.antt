@@ -1,0 +1,3 @@
+mod Unwinding
+mod Guards
+mod Steps

@@ -1,0 +1,2 @@
+pub mod Unwind
+pub mod Buffer
