@@ -1,10 +1,10 @@
 mod Shift
 mod Issue
-mod Cycles
-mod Tags
-mod Ties
-mod Ways
-mod Sounds
+pub mod Cycles
+pub mod Tags
+pub mod Ties
+pub mod Ways
+pub mod Sounds
 mod Stepping
 mod Running
-mod Registers
+pub mod Registers
