@@ -1,6 +1,6 @@
 // Why an instruction does not run, and why a core stops.
 ghost use mathlib.Core.Path.{_≡_};
-ghost use Rattle.isa.specs.Numbers.{fault-number, cause-number};
+ghost use Rattle.isa.specs.Numbers.{fault-number, cause-number, cause-or-0};
 
 // What is wrong with an instruction: a step with a fault changes nothing.
 #[derive(Clone, Copy, PartialEq, Eq, Debug)]
@@ -45,5 +45,15 @@ impl Cause {
             Cause::Request => 7,
             Cause::Cut => 8,
         }
+    }
+}
+
+// The number of a cause, or 0 where there is none.
+pub fn cause_number(cause: Option<Cause>) -> u32
+    ensures { λ r. ⌜ r ≡ cause-or-0 cause ⌝ }
+{
+    match cause {
+        Some(cause) => cause.number(),
+        None => 0,
     }
 }

@@ -37,6 +37,16 @@ impl Hold {
     }
 }
 
+// The number of a hold, or 0 where there is none.
+pub fn hold_number(hold: Option<Hold>) -> u32
+    ensures { λ r. ⌜ r ≡ hold-or-0 hold ⌝ }
+{
+    match hold {
+        Some(hold) => hold.number(),
+        None => 0,
+    }
+}
+
 // How a cycle ends: an instruction enters the flight, a store is written, the next instruction is held, or the core
 // stops.
 #[derive(Clone, Copy)]

@@ -1,0 +1,4 @@
+mod Fours
+mod There
+mod Texts
+mod Back

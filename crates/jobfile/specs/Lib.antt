@@ -1,0 +1,4 @@
+pub mod Bytes
+pub mod Jobs
+pub mod Held
+pub mod Lines
