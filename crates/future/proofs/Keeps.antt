@@ -4,7 +4,7 @@ use mathlib.Core.Path.{_≡_, refl, ap, sym, _∙_}
 use mathlib.Core.Bool.{Bool, true, false, cond}
 use mathlib.Core.List.{List, [], _∷_, _++_}
 use lib.Dec.{ltb}
-use lib.ListN.{length, take, getD, set}
+use lib.ListN.{length, getD, set}
 use native.Mathlib.Omega.{arith}
 use Rattle.std.specs.declared.option.Option.{Option}
 use Rattle.std.specs.declared.option.Option.the-variants.{Some, None}
@@ -22,7 +22,7 @@ use Rattle.recovery.specs.Slots.{flight-of}
 use Rattle.recovery.proofs.Flights.{d0, hit}
 use Rattle.reorder.specs.declared.buffer.Buffer.{Buffer}
 use Rattle.reorder.specs.Mean.{mean, taker-at, slot-at, taken-slot}
-use Rattle.reorder.proofs.Steps.{in-use, taken, delivers-none}
+use Rattle.reorder.proofs.Steps.{used, in-use, taken, delivers-none}
 use Rattle.future.specs.Current.{put-done, current, clear, guarded, Follows, written}
 use Rattle.future.proofs.Words.{current-set, current-new, current-read}
 use Rattle.future.proofs.Guards.{clear-parts, guarded-push, guarded-delivered}
@@ -81,9 +81,6 @@ turn (suc i) t r (s ∷ ss) ws l p g =
     (and-parts (clear (s .status) (s .destination) (flight-of ((t + 1) % 256) ss)) (guarded (flight-of ((t + 1) % 256) ss)) g .1)
 
 module _ (b : Buffer) where
-  abbrev used : List Slot
-  used = take (b .count) (b .slots)
-
   delivered-word : (u : ℕ) (r : Result ℕ Fault) (o : Option ℕ) → u < 256 → o ≡ taker-at b u → guarded (mean b .flight) ≡ true → written (newest-of (mean b)) (slot-at (b .slots) o) r ≡ newest-of (deliver-leaves (mean b) u r)
   delivered-word u r None l h g = ap newest-of (delivers-none b u r l h .1)
   delivered-word u r (Some i) l h g =
@@ -91,11 +88,11 @@ module _ (b : Buffer) where
       let lt = f .0 in
       let at : (b .first + i) % 256 ≡ u = f .1 in
       let e = getD-take (b .count) (b .slots) i d0 lt in
-      let p : getD used i d0 .status ≡ Pending = ap (λ x. x .status) e ∙ f .2 in
-      let k : i < length used = omega (arith, in-use b) in
-      let d = hit (b .first) u i (ended r) used (b .tagged) k (omega (arith, in-use b, b .room)) at p in
+      let p : getD (used b) i d0 .status ≡ Pending = ap (λ x. x .status) e ∙ f .2 in
+      let k : i < length (used b) = omega (arith, in-use b) in
+      let d = hit (b .first) u i (ended r) (used b) (b .tagged) k (omega (arith, in-use b, b .room)) at p in
       ap (λ x. put-done (newest-of (mean b)) (x .destination) (ended r)) (sym e)
-      ∙ (turn i (b .first) r used (b .settled) k p g ∙ ap (current (b .settled)) (sym (d .1)))
+      ∙ (turn i (b .first) r (used b) (b .settled) k p g ∙ ap (current (b .settled)) (sym (d .1)))
 
   pub follows-deliver : (ws vs : List ℕ) (n : Meaning) (u : ℕ) (r : Result ℕ Fault) → u < 256 → vs ≡ written ws (taken-slot b u) r → n ≡ deliver-leaves (mean b) u r → Follows ws (mean b) → Follows vs n
   follows-deliver ws vs n u r l e q f =

@@ -15,8 +15,8 @@ use recovery::slots::Slot;
 use recovery::slots::put_word;
 use reorder::buffer::Buffer;
 
-// Sources are read from the newest file, which takes each word as it is delivered. The buffer settles the words in
-// the order of the program, so that its registers are there to start again from.
+// Sources are read from the newest file, which takes each word as it is delivered. The buffer settles the same words
+// in the order of the program, and its registers are what the newest file returns to when the flight is backed out.
 #[derive(Drop)]
 pub struct FutureFile {
     buffer: Buffer,

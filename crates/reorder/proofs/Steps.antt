@@ -17,8 +17,9 @@ use Rattle.isa.specs.declared.fault.Fault.{Fault}
 use Rattle.recovery.specs.declared.Status.{Status}
 use Rattle.recovery.specs.declared.Status.the-variants.{Pending, Done, Faulted}
 use Rattle.recovery.specs.declared.Admitted.the-variants.{Awaited, Full, Tagged}
+use Rattle.recovery.specs.declared.Retired.the-variants.{Settled}
 use Rattle.recovery.specs.declared.slots.Slot.{Slot}
-use Rattle.recovery.specs.Meaning.{Entry, Meaning, is-empty, place-answer, retire-answer, retire-flight, retire-status, retire-leaves, settle-oldest, settle, has-tag, awaited-destination, full, Admits, new-entry, first-status, with-flight, waiting, delivered, deliver-leaves, ended, is-pending}
+use Rattle.recovery.specs.Meaning.{Entry, Meaning, is-empty, place-answer, retire-answer, retire-flight, retire-status, retire-leaves, settle-oldest, settle, put, has-tag, awaited-destination, full, Admits, new-entry, first-status, with-flight, waiting, deliver-leaves, ended, is-pending}
 use Rattle.recovery.specs.Slots.{entry-of, flight-of}
 use Rattle.recovery.proofs.Flights.{d0, front, flight-length, fresh, pushed, idle, hit}
 use Rattle.reorder.specs.declared.buffer.Buffer.{Buffer}
@@ -38,26 +39,29 @@ pending-is (Done w) h = let z : _≡_ {A = ℕ} 0 1 = cc in absurd (omega arith)
 pending-is (Faulted f) h = let z : _≡_ {A = ℕ} 0 1 = cc in absurd (omega arith)
 
 module _ (b : Buffer) where
-  abbrev used : List Slot
+  -- the slots in use
+  abbrev pub used : List Slot
   used = take (b .count) (b .slots)
 
-  abbrev next : ℕ
+  -- the tag of the next entry
+  abbrev pub next : ℕ
   next = (b .first + b .count) % 256
 
-  pub in-use : length (take (b .count) (b .slots)) ≡ b .count
+  pub in-use : length used ≡ b .count
   in-use = length-take-le (b .count) (b .slots) (omega (arith, b .sizes, b .room))
 
   pub mean-length : length (mean b .flight) ≡ b .count
   mean-length = flight-length (b .first) used ∙ in-use
 
-  -- the oldest entry
-  abbrev head : Slot
+  -- the slot of the oldest entry
+  abbrev pub head : Slot
   head = getD (b .slots) 0 d0
 
-  abbrev rest : List Entry
+  -- the entries behind it
+  abbrev pub rest : List Entry
   rest = flight-of ((b .first + 1) % 256) (take (b .count - 1) (drop 1 (b .slots)))
 
-  pub mean-front : (b .count ≡ 0 → ⊥) → mean b .flight ≡ entry-of (b .first) (getD (b .slots) 0 d0) ∷ flight-of ((b .first + 1) % 256) (take (b .count - 1) (drop 1 (b .slots)))
+  pub mean-front : (b .count ≡ 0 → ⊥) → mean b .flight ≡ entry-of (b .first) head ∷ rest
   mean-front ne = ap (flight-of (b .first)) (front (b .count) (b .slots) (omega arith) (omega (arith, b .sizes)))
 
   pub no-place : (r : ℕ) → ((b .count ≡ 0 → ⊥) ⊎ ((b .count ≡ 0) × (16 ≤ r))) → place-answer (mean b) r ≡ false
@@ -68,16 +72,22 @@ module _ (b : Buffer) where
       h
 
   -- retiring goes by the status of the oldest entry
-  pub retire-as : (s : Status) → (b .count ≡ 0 → ⊥) → getD (b .slots) 0 d0 .status ≡ s → (retire-status (getD (b .slots) 0 d0 .counter) s ≡ retire-answer (mean b)) × (settle (mean b) (flight-of ((b .first + 1) % 256) (take (b .count - 1) (drop 1 (b .slots)))) (getD (b .slots) 0 d0 .destination) s ≡ retire-leaves (mean b))
+  pub retire-as : (s : Status) → (b .count ≡ 0 → ⊥) → head .status ≡ s → (retire-status (head .counter) s ≡ retire-answer (mean b)) × (settle (mean b) rest (head .destination) s ≡ retire-leaves (mean b))
   retire-as s ne e = (
     sym (ap retire-flight (mean-front ne) ∙ ap (retire-status (head .counter)) e),
     sym (ap (settle-oldest (mean b)) (mean-front ne) ∙ ap (settle (mean b) rest (head .destination)) e),
   )
 
-  pub shifted : (ss : List Slot) → ss ≡ drop 1 (b .slots) ++ take 1 (b .slots) → take (b .count - 1) ss ≡ take (b .count - 1) (drop 1 (b .slots))
-  shifted ss e =
-      ap (take (b .count - 1)) e
-      ∙ take-append-le (b .count - 1) (drop 1 (b .slots)) (take 1 (b .slots)) (omega (arith, length-drop 1 (b .slots), b .sizes, b .room))
+  -- a done one goes: its word to its destination, and its slot behind all others
+  pub retire-done : (w : ℕ) (ws : List ℕ) (ss : List Slot) → (b .count ≡ 0 → ⊥) → head .status ≡ Done w → ws ≡ put (b .settled) (head .destination) w → ss ≡ drop 1 (b .slots) ++ take 1 (b .slots) → (Settled (head .counter) ≡ retire-answer (mean b)) × (record { settled = ws; capacity = b .capacity; flight = flight-of ((b .first + 1) % 256) (take (b .count - 1) ss) } ≡ retire-leaves (mean b))
+  retire-done w ws ss ne e hw hs =
+      let r = retire-as (Done w) ne e in
+      let q = ap (take (b .count - 1)) hs ∙ take-append-le (b .count - 1) (drop 1 (b .slots)) (take 1 (b .slots)) (omega (arith, length-drop 1 (b .slots), b .sizes, b .room)) in (
+        r .0,
+        ap (λ vs. record { settled = vs; capacity = b .capacity; flight = flight-of ((b .first + 1) % 256) (take (b .count - 1) ss) }) hw
+            ∙ (ap (λ vs. record { settled = put (b .settled) (head .destination) w; capacity = b .capacity; flight = flight-of ((b .first + 1) % 256) vs }) q
+            ∙ r .1),
+      )
 
   next-fresh : has-tag next (mean b .flight) ≡ false
   next-fresh =
@@ -106,7 +116,7 @@ module _ (b : Buffer) where
       ∙ (pushed (b .first) used x (b .tagged)
       ∙ ap (λ n. mean b .flight ++ (entry-of ((b .first + n) % 256) x ∷ [])) in-use)
 
-  pub admits-tagged : (c : ℕ) (d : Option ℕ) (s : Status) → false ≡ awaited-destination (mean b) d → s ≡ first-status d → b .count < b .capacity → Admits (mean b) c d (Tagged ((b .first + b .count) % 256)) (record { settled = b .settled; capacity = b .capacity; flight = flight-of (b .first) (take (b .count + 1) (set (b .slots) (b .count) (record { counter = c; destination = d; status = s }))) })
+  pub admits-tagged : (c : ℕ) (d : Option ℕ) (s : Status) → false ≡ awaited-destination (mean b) d → s ≡ first-status d → b .count < b .capacity → Admits (mean b) c d (Tagged next) (with-flight (mean b) (flight-of (b .first) (take (b .count + 1) (set (b .slots) (b .count) (record { counter = c; destination = d; status = s })))))
   admits-tagged c d s h e l =
       admits c d false false (with-flight (mean b) (flight-of (b .first) (take (b .count + 1) (set (b .slots) (b .count) (record { counter = c; destination = d; status = s }))))) h (sym (lt-leb (b .capacity) (length (mean b .flight)) (omega (arith, mean-length))))
       (ap (with-flight (mean b)) (longer (record { counter = c; destination = d; status = s }) l
@@ -134,6 +144,7 @@ module _ (b : Buffer) where
       ∙ (sym (ap (λ x. x && is-pending (getD (b .slots) (distance b u) d0 .status)) (lt-ltb (distance b u) (b .count) (omega arith))) ∙ no)) in
       (sym (k .0), ap (with-flight (mean b)) (sym (k .1)))
 
+  -- a slot with another status
   abbrev pub turned : ℕ → Status → Slot
   turned i s = record { counter = getD (b .slots) i d0 .counter; destination = getD (b .slots) i d0 .destination; status = s }
 

@@ -90,7 +90,7 @@ impl Buffer {
     }
 
     // The status of the youngest entry that names the register.
-    pub fn newest(&self, register: u8) -> Option<Status>
+    fn newest(&self, register: u8) -> Option<Status>
         ensures { λ r. ⌜ r ≡ newest-status (now (self .entry)) register ⌝ }
     {
         match youngest(&self.slots[0..self.count], register) {
