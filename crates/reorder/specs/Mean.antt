@@ -23,7 +23,7 @@ mean b = record { settled = b .settled; capacity = b .capacity; flight = flight-
 abbrev pub newest-status : Buffer → ℕ → Option Status
 newest-status b r = status-in (youngest r (mean b .flight))
 
--- the word of an entry from which a source may be read
+-- the word that a source takes from the youngest entry that names it, if it may be read yet
 abbrev pub readable-word : Timing → Status → Option ℕ
 readable-word k Pending = None
 readable-word Early (Done w) = Some w

@@ -23,7 +23,7 @@ const UNUSED: Slot = Slot {
     status: Status::Pending,
 };
 
-// The word that a source may be read from, where the youngest entry naming it has the status.
+// The word that a source takes from the youngest entry that names it, if it may be read yet.
 fn readable(timing: Timing, status: Status) -> Option<u32>
     ensures { λ r. ⌜ r ≡ readable-word timing status ⌝ }
 {
