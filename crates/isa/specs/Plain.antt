@@ -37,14 +37,14 @@ executed (jump rs f) p = Ok (record { registers = p .registers; words = p .words
 abbrev pub stepped : List ℕ → Plain → Result Plain Fault
 stepped program p = executed (fetched program (p .counter)) p
 
--- at most so many steps, up to the first with a fault: how many, the last state and the fault, if any
+-- at most so many steps, up to the first with a fault: how many were taken, the last state, and the fault, if any
 pub record Outcome : Type 0 where
   pub taken : ℕ
   pub last : Plain
   pub fault : Result (Unit {0}) Fault
 
 abbrev pub one-more : Outcome → Outcome
-one-more o = record { taken = suc (o .taken); last = o .last; fault = o .fault }
+one-more o = record { taken = o .taken + 1; last = o .last; fault = o .fault }
 
 abbrev pub go-on : Plain → (Plain → Outcome) → Result Plain Fault → Outcome
 go-on p rest (Ok q) = one-more (rest q)

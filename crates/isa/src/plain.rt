@@ -2,7 +2,7 @@
 ghost use mathlib.Core.Path.{_≡_};
 ghost use mathlib.Core.List.{List};
 ghost use Prim.Native.Nat.{ℕ};
-ghost use Rattle.isa.specs.Plain.{stepped, at-zero};
+ghost use Rattle.isa.specs.Plain.{stepped, ran, at-zero};
 ghost use Rattle.isa.specs.State.{plain-of};
 ghost use Rattle.isa.specs.Table.{verdict, value-or};
 use crate::compute::branch_taken;
@@ -67,5 +67,17 @@ impl PlainMachine {
                 Ok(())
             }
         }
+    }
+
+    // At most so many steps, up to the first with a fault: how many were taken, and that fault.
+    pub fn run(&mut self, program: &[u32], data: &mut [u32], most: u32) -> (u32, Result<(), Fault>)
+        ensures { λ r. ⌜ record { taken = r .0; last = plain-of (now (self .exit)) (now («data» .exit)); fault = r .1 } ≡ ran (now (program .entry)) most (plain-of (now (self .entry)) (now («data» .entry))) ⌝ }
+    {
+        for taken in 0..most {
+            if let Err(fault) = self.step(program, data) {
+                return (taken, Err(fault));
+            }
+        }
+        (most, Ok(()))
     }
 }

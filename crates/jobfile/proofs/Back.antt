@@ -11,10 +11,10 @@ use Rattle.std.proofs.shelf.Lists.{take-append-le, drop-append-le}
 use Rattle.std.proofs.shelf.Tests.{and-parts, and-from, leb-true, le-leb, eq-eqb, cond-true}
 use Rattle.std.specs.declared.option.Option.{Option}
 use Rattle.std.specs.declared.option.Option.the-variants.{Some, None}
-use Rattle.jobfile.specs.declared.job.Scheme.{Scheme}
-use Rattle.jobfile.specs.declared.job.Scheme.the-variants.{ReorderBuffer, BypassBuffer, HistoryBuffer, FutureFile}
+use Rattle.jobfile.specs.declared.scheme.Scheme.{Scheme}
+use Rattle.jobfile.specs.declared.scheme.Scheme.the-variants.{ReorderBuffer, BypassBuffer, HistoryBuffer, FutureFile}
 use Rattle.jobfile.specs.Bytes.{words-of, bytes-of-words}
-use Rattle.jobfile.specs.Jobs.{Order, Words32, scheme-number, scheme-at, well-formed, with-scheme, order-of, job-in, read-job, job-words, job-bytes, fits-file, write-job, Write-then-read}
+use Rattle.jobfile.specs.Jobs.{Order, Words32, scheme-number, scheme-at, well-formed, with-scheme, order-of, job-in, read-job, job-words, job-bytes, fits-file, Write-then-read}
 use Rattle.jobfile.proofs.There.{length-bytes, words-back}
 
 scheme-back : (s : Scheme) → scheme-at (scheme-number s) ≡ Some s
@@ -33,10 +33,6 @@ words32-append : (xs ys : List ℕ) → Words32 xs → Words32 ys → Words32 (x
 words32-append [] ys h k = k
 words32-append (x ∷ xs) ys h k = (h .0, words32-append xs ys (h .1) k)
 
-some-from : {A : Type 0} (b : Bool) (x y : A) → cond b (Some x) None ≡ Some y → (b ≡ true) × (x ≡ y)
-some-from true x y e = (refl, cc)
-some-from false x y e = absurd (let o : _≡_ {A = ℕ} 0 1 = cc in omega arith)
-
 take-front : (xs ys : List ℕ) → take (length xs) (xs ++ ys) ≡ xs
 take-front xs ys = take-append-le (length xs) xs ys (omega arith) ∙ take-length xs
 
@@ -52,32 +48,31 @@ module _ (s : Scheme) (a b c d e k : ℕ) (ps ws : List ℕ) where
       let p = and-parts (leb (length ps + length ws) 8192) (leb 1 k && leb k 1024) f in
       let l = leb-true (length ps + length ws) 8192 (p .0) in
       let t : well-formed (36 + 4 * (length ps + length ws)) (job-words order) ≡ true =
-            and-from _ _ (le-leb (36 + 4 * (length ps + length ws)) 32804 (omega arith))
-              (and-from _ _ (eq-eqb (36 + 4 * (length ps + length ws)) (36 + 4 * (length ps + length ws)) refl) (p .1)) in
+      and-from _ _ (le-leb (36 + 4 * (length ps + length ws)) 32804 (omega arith))
+      (and-from _ _ (eq-eqb (36 + 4 * (length ps + length ws)) (36 + 4 * (length ps + length ws)) refl) (p .1)) in
       cond-true _ _ _ t
       ∙ (ap (with-scheme (job-words order)) (scheme-back s)
       ∙ (ap (λ x. Some (record { scheme = s; delays = a ∷ (b ∷ (c ∷ (d ∷ []))); capacity = e; program = x; words = drop (length ps) (ps ++ ws); cycles = k })) (take-front ps ws)
       ∙ ap (λ x. Some (record { scheme = s; delays = a ∷ (b ∷ (c ∷ (d ∷ []))); capacity = e; program = ps; words = x; cycles = k })) (drop-front ps ws)))
 
-  back : (bytes : List ℕ) → a < 2 ^ 32 → b < 2 ^ 32 → c < 2 ^ 32 → d < 2 ^ 32 → e < 2 ^ 32 → Words32 ps → Words32 ws → write-job order ≡ Some bytes → read-job bytes ≡ Some order
-  back bytes ha hb hc hd he hp hw h =
-      let q = some-from (fits-file order) (job-bytes order) bytes h in
-      let p = and-parts (leb (length ps + length ws) 8192) (leb 1 k && leb k 1024) (q .0) in
+  back : fits-file order ≡ true → a < 2 ^ 32 → b < 2 ^ 32 → c < 2 ^ 32 → d < 2 ^ 32 → e < 2 ^ 32 → Words32 ps → Words32 ws → read-job (job-bytes order) ≡ Some order
+  back f ha hb hc hd he hp hw =
+      let p = and-parts (leb (length ps + length ws) 8192) (leb 1 k && leb k 1024) f in
       let l = leb-true (length ps + length ws) 8192 (p .0) in
       let m = leb-true k 1024 (and-parts (leb 1 k) (leb k 1024) (p .1) .1) in
       let small : Words32 (job-words order) = (scheme-small s, (ha, (hb, (hc, (hd, (he, (omega arith, (omega arith, (omega arith, words32-append ps ws hp hw))))))))) in
       let n : length (job-bytes order) ≡ 36 + 4 * (length ps + length ws) = omega (arith, length-bytes (job-words order), length-append ps ws) in
-      sym (ap read-job (q .1))
-      ∙ (ap (job-in (length (job-bytes order))) (words-back (job-words order) small) ∙ (ap (λ x. job-in x (job-words order)) n ∙ in-words (q .0)))
+      ap (job-in (length (job-bytes order))) (words-back (job-words order) small) ∙ (ap (λ x. job-in x (job-words order)) n ∙ in-words f)
 
 pub write-then-read : Write-then-read
-write-then-read o bytes four hd he hp hw h = go (o .delays) four hd h
+write-then-read o f four hd he hp hw = go (o .delays) four hd
   where
-    go : (ds : List ℕ) → length ds ≡ 4 → Words32 ds → write-job (record { scheme = o .scheme; delays = ds; capacity = o .capacity; program = o .program; words = o .words; cycles = o .cycles }) ≡ Some bytes
-        → read-job bytes ≡ Some (record { scheme = o .scheme; delays = ds; capacity = o .capacity; program = o .program; words = o .words; cycles = o .cycles })
-    go [] l w k = absurd (omega arith)
-    go (a ∷ []) l w k = absurd (omega arith)
-    go (a ∷ (b ∷ [])) l w k = absurd (omega arith)
-    go (a ∷ (b ∷ (c ∷ []))) l w k = absurd (omega arith)
-    go (a ∷ (b ∷ (c ∷ (d ∷ [])))) l w k = back (o .scheme) a b c d (o .capacity) (o .cycles) (o .program) (o .words) bytes (w .0) (w .1 .0) (w .1 .1 .0) (w .1 .1 .1 .0) he hp hw k
-    go (a ∷ (b ∷ (c ∷ (d ∷ (e ∷ ds))))) l w k = absurd (omega arith)
+    go : (ds : List ℕ) → length ds ≡ 4 → Words32 ds
+        → read-job (job-bytes (record { scheme = o .scheme; delays = ds; capacity = o .capacity; program = o .program; words = o .words; cycles = o .cycles }))
+        ≡ Some (record { scheme = o .scheme; delays = ds; capacity = o .capacity; program = o .program; words = o .words; cycles = o .cycles })
+    go [] l w = absurd (omega arith)
+    go (a ∷ []) l w = absurd (omega arith)
+    go (a ∷ (b ∷ [])) l w = absurd (omega arith)
+    go (a ∷ (b ∷ (c ∷ []))) l w = absurd (omega arith)
+    go (a ∷ (b ∷ (c ∷ (d ∷ [])))) l w = back (o .scheme) a b c d (o .capacity) (o .cycles) (o .program) (o .words) f (w .0) (w .1 .0) (w .1 .1 .0) (w .1 .1 .1 .0) he hp hw
+    go (a ∷ (b ∷ (c ∷ (d ∷ (e ∷ ds))))) l w = absurd (omega arith)

@@ -2,3 +2,4 @@ mod Fours
 mod There
 mod Texts
 mod Back
+mod Picks

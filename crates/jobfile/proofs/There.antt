@@ -43,7 +43,6 @@ pub words-back : (ws : List ℕ) → Words32 ws → words-of (bytes-of-words ws)
 words-back [] h = refl
 words-back (w ∷ ws) h = ap (λ x. x ∷ words-of (bytes-of-words ws)) (word-back w (h .0)) ∙ ap (λ x. w ∷ x) (words-back ws (h .1))
 
-
 bytes-append : (xs ys : List ℕ) → bytes-of-words (xs ++ ys) ≡ bytes-of-words xs ++ bytes-of-words ys
 bytes-append [] ys = refl
 bytes-append (x ∷ xs) ys = ap (λ bs. bytes-of x ++ bs) (bytes-append xs ys) ∙ sym (append-assoc (bytes-of x) (bytes-of-words xs) (bytes-of-words ys))
@@ -54,3 +53,10 @@ pushed-five v w x y z =
     bytes-append v (w ++ (x ++ (y ++ z)))
     ∙ (ap (λ b. bytes-of-words v ++ b) (bytes-append w (x ++ (y ++ z)) ∙ ap (λ b. bytes-of-words w ++ b) (bytes-append x (y ++ z) ∙ ap (λ b. bytes-of-words x ++ b) (bytes-append y z)))
     ∙ simp append-assoc)
+
+pub all-pushed : (a b c d e f v w x y z : List ℕ) → a ≡ [] → b ≡ a ++ bytes-of-words v → c ≡ b ++ bytes-of-words w → d ≡ c ++ bytes-of-words x → e ≡ d ++ bytes-of-words y → f ≡ e ++ bytes-of-words z
+    → f ≡ bytes-of-words (v ++ (w ++ (x ++ (y ++ z))))
+all-pushed a b c d e f v w x y z ha hb hc hd he hf =
+    let five = pushed-five v w x y z in
+    let first : b ≡ bytes-of-words v = hb ∙ ap (λ bs. bs ++ bytes-of-words v) ha in
+    cc

@@ -7,8 +7,8 @@ use lib.Dec.{eqb, leb}
 use lib.ListN.{length, getD, take, drop}
 use Rattle.std.specs.declared.option.Option.{Option}
 use Rattle.std.specs.declared.option.Option.the-variants.{Some, None}
-use Rattle.jobfile.specs.declared.job.Scheme.{Scheme}
-use Rattle.jobfile.specs.declared.job.Scheme.the-variants.{ReorderBuffer, BypassBuffer, HistoryBuffer, FutureFile}
+use Rattle.jobfile.specs.declared.scheme.Scheme.{Scheme}
+use Rattle.jobfile.specs.declared.scheme.Scheme.the-variants.{ReorderBuffer, BypassBuffer, HistoryBuffer, FutureFile}
 use Rattle.jobfile.specs.Bytes.{words-of, bytes-of-words}
 
 -- the number of every scheme
@@ -55,7 +55,8 @@ order-of ws s = record {
   capacity = getD ws 5 0;
   program = take (program-length ws) (drop 9 ws);
   words = drop (program-length ws) (drop 9 ws);
-  cycles = cycles-in ws }
+  cycles = cycles-in ws;
+}
 
 abbrev pub with-scheme : List ℕ → Option Scheme → Option Order
 with-scheme ws None = None
@@ -81,15 +82,12 @@ job-bytes o = bytes-of-words (job-words o)
 abbrev pub fits-file : Order → Bool
 fits-file o = leb (length (o .program) + length (o .words)) 8192 && (leb 1 (o .cycles) && leb (o .cycles) 1024)
 
-abbrev pub write-job : Order → Option (List ℕ)
-write-job o = cond (fits-file o) (Some (job-bytes o)) None
-
 -- every word is a number of 32 bits
 abbrev pub Words32 : List ℕ → Type 0
 Words32 [] = Unit {0}
 Words32 (w ∷ ws) = (w < 2 ^ 32) × Words32 ws
 
--- the bytes that are written for a job, of four delays and words of 32 bits, read back as that job
+-- the bytes of a job that a file holds, of four delays and words of 32 bits, read back as that job
 abbrev pub Write-then-read : Type 0
-Write-then-read = (o : Order) (bytes : List ℕ) → length (o .delays) ≡ 4 → Words32 (o .delays) → o .capacity < 2 ^ 32 → Words32 (o .program) → Words32 (o .words)
-    → write-job o ≡ Some bytes → read-job bytes ≡ Some o
+Write-then-read = (o : Order) → fits-file o ≡ true → length (o .delays) ≡ 4 → Words32 (o .delays) → o .capacity < 2 ^ 32 → Words32 (o .program) → Words32 (o .words)
+    → read-job (job-bytes o) ≡ Some o

@@ -2,3 +2,4 @@ pub mod Bytes
 pub mod Jobs
 pub mod Held
 pub mod Lines
+pub mod Runs

@@ -1,5 +1,6 @@
 -- The lines that a program prints.
-use Prim.Native.Nat.{ℕ, _+_}
+use Prim.Native.Nat.{ℕ, _+_, _/_, _%_, _^_}
+use lib.Dec.{ltb}
 use mathlib.Core.Bool.{cond}
 use mathlib.Core.List.{List, [], _∷_, _++_}
 use lib.Chars.{codes}
@@ -11,6 +12,21 @@ use Rattle.isa.specs.Numbers.{cause-or-0, refusal-number}
 use Rattle.pickcore.specs.declared.record.CycleRecord.{CycleRecord}
 use Rattle.pickcore.specs.declared.record.Report.{Report}
 use Rattle.pickcore.specs.Record.{hold-or-0}
+
+-- one line for each element, which are numbered from i
+abbrev pub numbered : {A : Type 0} → (ℕ → A → List ℕ) → ℕ → List A → List ℕ
+numbered line i [] = []
+numbered line i (x ∷ xs) = line i x ++ numbered line (i + 1) xs
+
+-- a hexadecimal digit, the two of a byte, and a word as `0x` and the eight of its bytes, highest first
+abbrev pub hex-digit : ℕ → ℕ
+hex-digit n = cond (ltb n 10) (48 + n) (87 + n)
+
+abbrev pub hex-byte : ℕ → List ℕ
+hex-byte b = hex-digit (b / 16) ∷ (hex-digit (b % 16) ∷ [])
+
+abbrev pub hex-word : ℕ → List ℕ
+hex-word w = codes "0x" ++ (hex-byte (w / 2 ^ 24 % 256) ++ (hex-byte (w / 2 ^ 16 % 256) ++ (hex-byte (w / 2 ^ 8 % 256) ++ hex-byte (w % 256))))
 
 -- a counter, or a dash where there is none
 abbrev pub counter-text : Option ℕ → List ℕ

@@ -1,61 +1,18 @@
-// A job: the scheme, the setting of a core, a program, its data words, and how many cycles to run.
+// Reading a job from bytes, and writing it.
 ghost use mathlib.Core.Path.{_≡_};
 ghost use mathlib.Core.Bool.{true};
 ghost use Rattle.std.specs.Of.Vec.{vec-items};
 ghost use Rattle.std.specs.Vec.{made};
 ghost use Prim.Native.Nat.{_/_};
 ghost use lib.ListN.{length};
-ghost use Rattle.jobfile.specs.Jobs.{scheme-number, scheme-at, read-job, job-in, write-job, Write-then-read};
-ghost use Rattle.jobfile.specs.Held.{held, held-in, bytes-in};
+ghost use Rattle.jobfile.specs.Jobs.{read-job, job-in, job-bytes, Write-then-read};
+ghost use Rattle.jobfile.specs.Held.{held, held-in};
 use crate::bytes::push_words;
 use crate::bytes::words_of;
-use isa::unit::UNITS;
+use crate::order::Job;
+use crate::scheme::Scheme;
 use std::alloc::AllocError;
 use std::alloc::Global;
-
-// The recovery schemes, by number.
-#[derive(Clone, Copy, PartialEq, Eq, Debug)]
-pub enum Scheme {
-    ReorderBuffer,
-    BypassBuffer,
-    HistoryBuffer,
-    FutureFile,
-}
-
-impl Scheme {
-    pub fn number(self) -> u32
-        ensures { λ r. ⌜ r ≡ scheme-number self ⌝ }
-    {
-        match self {
-            Scheme::ReorderBuffer => 1,
-            Scheme::BypassBuffer => 2,
-            Scheme::HistoryBuffer => 3,
-            Scheme::FutureFile => 4,
-        }
-    }
-
-    pub fn from_number(number: u32) -> Option<Scheme>
-        ensures { λ r. ⌜ r ≡ scheme-at number ⌝ }
-    {
-        match number {
-            1 => Some(Scheme::ReorderBuffer),
-            2 => Some(Scheme::BypassBuffer),
-            3 => Some(Scheme::HistoryBuffer),
-            4 => Some(Scheme::FutureFile),
-            _ => None,
-        }
-    }
-}
-
-#[derive(Drop)]
-pub struct Job {
-    pub scheme: Scheme,
-    pub delays: [u32; UNITS],
-    pub capacity: u32,
-    pub program: Vec<u32>,
-    pub words: Vec<u32>,
-    pub cycles: u32,
-}
 
 // The job that some bytes hold, if they hold one.
 pub fn read_job(heap: Global, bytes: &[u8]) -> Result<Option<Job>, AllocError>
@@ -87,31 +44,34 @@ fn job_in(heap: Global, many: usize, words: &[u32]) -> Result<Option<Job>, Alloc
     let program = Vec::from_slice(heap, program)?;
     let words = Vec::from_slice(heap, data)?;
     let delays = [header[1], header[2], header[3], header[4]];
-    Ok(Some(Job { scheme, delays, capacity: header[5], program, words, cycles }))
+    Ok(Some(Job {
+        scheme,
+        delays,
+        capacity: header[5],
+        program,
+        words,
+        cycles,
+    }))
 }
 
 impl Job {
-    // The bytes that hold the job; a job that is too long, or has no cycle or too many, is held by none.
-    pub fn bytes(&self, heap: Global) -> Result<Option<Vec<u8>>, AllocError>
-        ensures { λ r. ⌜ made r (λ o. bytes-in o ≡ write-job (held (now (self .entry)))) ⌝ }
+    // The bytes that hold the job.
+    pub fn bytes(&self, heap: Global) -> Result<Vec<u8>, AllocError>
+        ensures { λ r. ⌜ made r (λ v. vec-items v ≡ job-bytes (held (now (self .entry)))) ⌝ }
     {
-        let program = self.program.len();
-        let words = self.words.len();
-        if program > 8192 || words > 8192 - program || self.cycles < 1 || self.cycles > 1024 {
-            return Ok(None);
-        }
         let mut bytes = Vec::new(heap);
         push_words(&mut bytes, &[self.scheme.number()])?;
         push_words(&mut bytes, &self.delays)?;
-        push_words(&mut bytes, &[self.capacity, program as u32, words as u32, self.cycles])?;
+        let program = self.program.len() as u32;
+        let words = self.words.len() as u32;
+        push_words(&mut bytes, &[self.capacity, program, words, self.cycles])?;
         push_words(&mut bytes, self.program.as_slice())?;
         push_words(&mut bytes, self.words.as_slice())?;
-        Ok(Some(bytes))
+        Ok(bytes)
     }
 }
 
 // The bytes that are written for a job read back as that job.
 pub fn jobs_round_trip()
     ensures { λ _. ⌜ Write-then-read ⌝ }
-{
-}
+{}

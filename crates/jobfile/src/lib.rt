@@ -2,3 +2,7 @@
 pub mod bytes;
 pub mod job;
 pub mod lines;
+pub mod order;
+pub mod pick;
+pub mod plain;
+pub mod scheme;

@@ -6,8 +6,8 @@ ghost use Rattle.jobfile.specs.Lines.{counter-text, cycle-line, stop-line, dec
 use isa::fault::cause_number;
 use isa::refusal::Refusal;
 use pickcore::record::CycleRecord;
-use pickcore::record::hold_number;
 use pickcore::record::Report;
+use pickcore::record::hold_number;
 use std::alloc::AllocError;
 use std::alloc::Global;
 

@@ -10,7 +10,7 @@ use Rattle.jobfile.proofs.bytes.push_words.Needs as need
 pub loop-word-again : need.loop-word-again
 loop-word-again c =
     let e : vec-items (c .extend-from-slice .last .self) ≡ vec-items (c .loop-word .bytes) ++ bytes-of (getD (c .args .words .now) (c .loop-word .word-index) 0) =
-          c .in-Continue-extend-from-slice .ensures tt .items ∙ ap (λ x. vec-items (c .loop-word .bytes) ++ x) (c .to-le-bytes .ensures) in
+    c .in-Continue-extend-from-slice .ensures tt .items ∙ ap (λ x. vec-items (c .loop-word .bytes) ++ x) (c .to-le-bytes .ensures) in
     push-more (c .args .words .now) (vec-items (c .loop-word .bytes)) (vec-items (c .extend-from-slice .last .self)) _ (c .loop-word .word-index) (c .loop-word-test .taken) e (c .loop-word .inv)
 
 pub returns : need.returns

@@ -10,4 +10,4 @@ use Rattle.jobfile.proofs.lines.cycle_line.Needs as need
 pub returns : need.returns
 returns c =
     made-as (c .format .result) _ _ (c .format .ensures .made)
-      (line-as (c .args .number) _ _ _ _ _ _ (c .in-Continue-retired .ensures tt) (c .in-Continue-issued .ensures tt) (c .hold-number-hold .ensures))
+    (line-as (c .args .number) _ _ _ _ _ _ (c .in-Continue-retired .ensures tt) (c .in-Continue-issued .ensures tt) (c .hold-number-hold .ensures))

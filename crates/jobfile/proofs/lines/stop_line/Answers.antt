@@ -8,4 +8,4 @@ use Rattle.jobfile.proofs.lines.stop_line.Needs as need
 pub returns : need.returns
 returns c =
     made-as (c .format .result) _ _ (c .format .ensures .made)
-      (ap (λ n. codes "stop " ++ (decimal n ++ (codes " " ++ (decimal (c .args .report .counter) ++ (codes " " ++ (decimal (c .args .report .count) ++ codes "\n")))))) (c .cause-number-cause .ensures))
+    (ap (λ n. codes "stop " ++ (decimal n ++ (codes " " ++ (decimal (c .args .report .counter) ++ (codes " " ++ (decimal (c .args .report .count) ++ codes "\n")))))) (c .cause-number-cause .ensures))

@@ -1,4 +1,0 @@
-use Rattle.jobfile.proofs.job.Job.bytes.Needs as need
-
-pub returns : need.returns
-returns c = ?
