@@ -1,0 +1,4 @@
+pub mod Steps
+pub mod Fit
+pub mod Beside
+pub mod Results
