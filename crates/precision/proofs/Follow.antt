@@ -1,6 +1,6 @@
 -- The words that a new instruction reads past a flight are those of the plain machine once it has taken the flight's steps.
-use Prim.Native.Nat.{ℕ, _<_}
-use mathlib.Core.Path.{_≡_, refl, ap, sym, subst, _∙_}
+use Prim.Native.Nat.{ℕ}
+use mathlib.Core.Path.{_≡_, refl, ap, sym, _∙_}
 use mathlib.Core.Bool.{Bool, true, false, cond}
 use mathlib.Core.List.{List, [], _∷_, _++_}
 use native.Mathlib.Omega.{arith}
@@ -23,7 +23,7 @@ use Rattle.recovery.specs.Meaning.{Meaning, Entry, is-register, names, youngest
 use Rattle.recovery.specs.Search.{or-else}
 use Rattle.pickcore.specs.declared.stages.Stage.{Stage}
 use Rattle.pickcore.specs.Cycle.{both, looks}
-use Rattle.precision.specs.Beside.{fate, come-to, foreseen, Settles, Follows, end, trap, on}
+use Rattle.precision.specs.Beside.{fate, foreseen, Settles, Follows, end, trap, on}
 use Rattle.precision.proofs.Plan.{fate-known}
 
 -- a word that is put into its register

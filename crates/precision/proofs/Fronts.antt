@@ -1,11 +1,11 @@
 -- What the rules after a retirement come to, and why: what the plain machine does with the next instruction, or that
 -- something is in flight.
 use Prim.Native.Nat.{ℕ, zero, suc, _+_, _-_, _≤_, _<_}
-use mathlib.Core.Path.{_≡_, refl, ap, sym, _∙_}
+use mathlib.Core.Path.{_≡_, refl, ap, _∙_}
 use mathlib.Core.Bool.{Bool, true, false, cond}
 use mathlib.Core.List.{List, [], _∷_}
 use native.Mathlib.Omega.{arith}
-use lib.Dec.{ltb, leb}
+use lib.Dec.{ltb}
 use lib.ListN.{getD, set, length}
 use Rattle.std.proofs.shelf.Tests.{both-ways, lt-ltb, leb-true, cond-true}
 use Rattle.std.specs.declared.option.Option.{Option}
@@ -19,7 +19,7 @@ use Rattle.isa.specs.declared.unit.ExecUnit.{ExecUnit}
 use Rattle.isa.specs.Table.{Instr, halt, store, work, jump}
 use Rattle.isa.specs.Plain.{Plain, reads, executed, worked, written}
 use Rattle.recovery.specs.declared.Admitted.the-variants.{Awaited, Full, Tagged}
-use Rattle.recovery.specs.Meaning.{Entry, awaited, awaited-destination, held-up, youngest, full, new-entry, oldest-of}
+use Rattle.recovery.specs.Meaning.{Entry, awaited, held-up, youngest, full, new-entry, oldest-of}
 use Rattle.pickcore.specs.declared.record.Hold.{Hold}
 use Rattle.pickcore.specs.declared.record.Hold.the-variants as hold
 use Rattle.pickcore.specs.declared.record.Ending.the-variants.{Issued, Stored}
@@ -34,32 +34,34 @@ use Rattle.precision.specs.Fit.{Registers, Named}
 abbrev pub issue : ℕ → Pipe → List ℕ → Option ℕ → List (Option Stage) → ℕ → Turn
 issue t p ws d stages next = record { ending = Issued (p .next); pipe = record { scheme = appended (p .scheme) (new-entry t (p .next) d); stages = stages; next = next; count = p .count }; words = ws }
 
--- what the next instruction does to every plain machine with these registers and data words
-abbrev pub Does : Setting → Pipe → List ℕ → (Plain → Result Plain Fault) → Type 0
-Does s p ws f = (z : Plain) → z .registers ≡ p .scheme .settled → z .words ≡ ws → executed (s .code (p .next)) z ≡ f z
+-- what the next instruction does to every plain machine that stands at it, with these data words and such registers
+abbrev pub Does : Setting → Pipe → List ℕ → (List ℕ → Type 0) → (Plain → Result Plain Fault) → Type 0
+Does s p ws Such f = (z : Plain) → z .counter ≡ p .next → z .words ≡ ws → Such (z .registers) → executed (s .code (z .counter)) z ≡ f z
 
--- what it does to every plain machine that stands at it and reads the words xs in the registers rs
-abbrev pub Does-reading : Setting → Pipe → List ℕ → List ℕ → List ℕ → (Plain → Result Plain Fault) → Type 0
-Does-reading s p ws rs xs f =
-    (z : Plain) → z .counter ≡ p .next → z .words ≡ ws → reads (z .registers) rs ≡ xs → executed (s .code (p .next)) z ≡ f z
+-- the registers are the settled ones; in the registers rs are the words xs
+abbrev pub Settled : Pipe → List ℕ → Type 0
+Settled p registers = registers ≡ p .scheme .settled
+
+abbrev pub Reading : List ℕ → List ℕ → List ℕ → Type 0
+Reading rs xs registers = reads registers rs ≡ xs
 
 pub data Went (s : Setting) (t : ℕ) (p : Pipe) (ws : List ℕ) : Turn → Type 0 where
   -- a request is met
   met : p .scheme .flight ≡ [] → Went s t p ws (beside ws (stops p cause.Request (p .next)))
   -- the next instruction has a fault
-  failed : (f : Fault) → p .scheme .flight ≡ [] → Does s p ws (λ z. Err f) → Went s t p ws (beside ws (stops p (cause.Fault f) (p .next)))
+  failed : (f : Fault) → p .scheme .flight ≡ [] → Does s p ws (Settled p) (λ z. Err f) → Went s t p ws (beside ws (stops p (cause.Fault f) (p .next)))
   -- it is a store, which is written
-  wrote : (vs : List ℕ) → p .scheme .flight ≡ [] → Does s p ws (λ z. written z (Ok vs))
+  wrote : (vs : List ℕ) → p .scheme .flight ≡ [] → Does s p ws (Settled p) (λ z. written z (Ok vs))
       → Went s t p ws (record { ending = Stored (p .next); pipe = record { scheme = p .scheme; stages = p .stages; next = p .next + 1; count = p .count + 1 }; words = vs })
   -- it is held back by what is in flight
   kept : (h : Hold) → (p .scheme .flight ≡ [] → ⊥) → Went s t p ws (beside ws (holds p h))
   -- it has a result, and issues
   issued : (u : ExecUnit) (d : ℕ) (rs xs : List ℕ) (r : Result ℕ Fault) → d < 16 → looks (s .timing) (p .scheme) rs ≡ Some xs → getD (p .stages) (s .delay u - 1) None ≡ None
-      → Does-reading s p ws rs xs (λ z. worked z d r)
+      → Does s p ws (Reading rs xs) (λ z. worked z d r)
       → Went s t p ws (issue t p ws (Some d) (set (p .stages) (s .delay u - 1) (Some (record { tag = t; result = r }))) (p .next + 1))
   -- it is a branch, and issues
   jumped : (rs xs : List ℕ) (n : ℕ) → looks (s .timing) (p .scheme) rs ≡ Some xs
-      → Does-reading s p ws rs xs (λ z. Ok (record { registers = z .registers; words = z .words; counter = n }))
+      → Does s p ws (Reading rs xs) (λ z. Ok (record { registers = z .registers; words = z .words; counter = n }))
       → Went s t p ws (issue t p ws None (p .stages) n)
 
 no-oldest : (es : List Entry) → oldest-of es ≡ None → es ≡ []
@@ -78,6 +80,9 @@ all-free (None ∷ xs) (suc i) k = all-free xs i k
 all-free (Some x ∷ xs) i k = let h = k .0 in let z : _≡_ {A = ℕ} 0 1 = cc in absurd (omega arith)
 
 module _ (s : Setting) (t : ℕ) (p : Pipe) (ws : List ℕ) (tied : Tied (p .scheme .flight) (p .stages)) (roomy : 1 ≤ p .scheme .capacity) where
+  at-next : (i : Instr) (z : Plain) → s .code (p .next) ≡ i → z .counter ≡ p .next → executed (s .code (z .counter)) z ≡ executed i z
+  at-next i z e at = ap (λ (j : Instr). executed j z) (ap (s .code) at ∙ e)
+
   -- each hold is of something in flight
 
   oldest-busy : (n : ℕ) → oldest-of (p .scheme .flight) ≡ Some n → p .scheme .flight ≡ [] → ⊥
@@ -106,7 +111,7 @@ module _ (s : Setting) (t : ℕ) (p : Pipe) (ws : List ℕ) (tied : Tied (p .sch
   drained-went h c w (Some n) e = kept h (oldest-busy n e)
   drained-went h c w None e = w (no-oldest (p .scheme .flight) e)
 
-  writes-went : (r : Result (List ℕ) Fault) → p .scheme .flight ≡ [] → Does s p ws (λ z. written z r) → Went s t p ws (writes p ws r)
+  writes-went : (r : Result (List ℕ) Fault) → p .scheme .flight ≡ [] → Does s p ws (Settled p) (λ z. written z r) → Went s t p ws (writes p ws r)
   writes-went (Ok vs) e d = wrote vs e d
   writes-went (Err f) e d = failed f e d
 
@@ -114,7 +119,7 @@ module _ (s : Setting) (t : ℕ) (p : Pipe) (ws : List ℕ) (tied : Tied (p .sch
   putting-went rs g i (Some n) e = kept hold.Flight (oldest-busy n e)
   putting-went rs g i None e =
       writes-went (g (reads (p .scheme .settled) rs) ws) (no-oldest (p .scheme .flight) e)
-      (λ z a b. ap (λ (j : Instr). executed j z) i ∙ (ap (λ xs. written z (g (reads xs rs) (z .words))) a ∙ ap (λ xs. written z (g (reads (p .scheme .settled) rs) xs)) b))
+      (λ z at b a. at-next (store rs g) z i at ∙ (ap (λ xs. written z (g (reads xs rs) (z .words))) a ∙ ap (λ xs. written z (g (reads (p .scheme .settled) rs) xs)) b))
 
   -- an admission, by its two tests
   admitted-went : (d : Option ℕ) (stages : List (Option Stage)) (next : ℕ) (a f : Bool) → (a ≡ true → p .scheme .flight ≡ [] → ⊥) → full (p .scheme) ≡ f → Went s t p ws (issue t p ws d stages next)
@@ -128,8 +133,8 @@ module _ (s : Setting) (t : ℕ) (p : Pipe) (ws : List ℕ) (tied : Tied (p .sch
   working-went u d rs g i l n None e = kept hold.Source (source-busy rs n e)
   working-went u d rs g i l n (Some xs) e = entering-went (getD (p .stages) (s .delay u - 1) None) refl
     where
-      does : Does-reading s p ws rs xs (λ z. worked z d (g xs ws))
-      does z a b c = ap (λ (j : Instr). executed j z) i ∙ (ap (λ vs. worked z d (g vs (z .words))) c ∙ ap (λ vs. worked z d (g xs vs)) b)
+      does : Does s p ws (Reading rs xs) (λ z. worked z d (g xs ws))
+      does z at b c = at-next (work u d rs g) z i at ∙ (ap (λ vs. worked z d (g vs (z .words))) c ∙ ap (λ vs. worked z d (g xs vs)) b)
 
       entering-went : (o : Option Stage) → getD (p .stages) (s .delay u - 1) None ≡ o → Went s t p ws (beside ws (entering t p (s .delay u) d (g xs ws) o))
       entering-went (Some x) h = kept hold.Stage (stage-busy (s .delay u - 1) x h)
@@ -143,16 +148,16 @@ module _ (s : Setting) (t : ℕ) (p : Pipe) (ws : List ℕ) (tied : Tied (p .sch
       admitted-went None (p .stages) (g xs (p .next)) false (full (p .scheme)) (λ h. absurd (both-ways false refl h)) refl
       (jumped rs xs (g xs (p .next)) e does)
     where
-      does : Does-reading s p ws rs xs (λ z. Ok (record { registers = z .registers; words = z .words; counter = g xs (p .next) }))
-      does z a b c =
-          ap (λ (j : Instr). executed j z) i
+      does : Does s p ws (Reading rs xs) (λ z. Ok (record { registers = z .registers; words = z .words; counter = g xs (p .next) }))
+      does z at b c =
+          at-next (jump rs g) z i at
           ∙ (ap (λ vs. Ok (record { registers = z .registers; words = z .words; counter = g vs (z .counter) })) c
-          ∙ ap (λ m. Ok (record { registers = z .registers; words = z .words; counter = g xs m })) a)
+          ∙ ap (λ m. Ok (record { registers = z .registers; words = z .words; counter = g xs m })) at)
 
   dispatch-went : (i : Instr) → s .code (p .next) ≡ i → Named i → Went s t p ws (dispatch s t p ws i)
   unfolding dispatch
   dispatch-went (halt f) e n =
-      drained-went hold.Flight (cause.Fault f) (λ none. failed f none (λ z a b. ap (λ (j : Instr). executed j z) e)) (oldest-of (p .scheme .flight)) refl
+      drained-went hold.Flight (cause.Fault f) (λ none. failed f none (λ z at b a. at-next (halt f) z e at)) (oldest-of (p .scheme .flight)) refl
   dispatch-went (store rs g) e n = putting-went rs g e (oldest-of (p .scheme .flight)) refl
   dispatch-went (work u d rs g) e n = working-went u d rs g e (n .0) (n .1) (looks (s .timing) (p .scheme) rs) refl
   dispatch-went (jump rs g) e n = jumping-went rs g e n (looks (s .timing) (p .scheme) rs) refl

@@ -1,5 +1,7 @@
 pub mod Plan
 pub mod Follow
-pub mod Settings
 pub mod Fronts
 pub mod Turns
+pub mod Places
+pub mod Waits
+pub mod Settings

@@ -1,7 +1,7 @@
 -- What a flight comes to stays as stages are delivered and move on, and an issue adds one entry to it.
 use Prim.Native.Nat.{ℕ, zero, suc, _<_}
 use mathlib.Core.Path.{_≡_, refl, ap, ap₂, _∙_}
-use mathlib.Core.Bool.{Bool, true, false, cond, _&&_, _||_}
+use mathlib.Core.Bool.{Bool, true, false, cond, _&&_}
 use mathlib.Core.List.{List, [], _∷_, _++_}
 use native.Mathlib.Omega.{arith}
 use lib.Dec.{eqb}
@@ -14,7 +14,7 @@ use Rattle.std.specs.declared.result.Result.{Result}
 use Rattle.std.specs.declared.result.Result.the-variants.{Ok, Err}
 use Rattle.isa.specs.declared.fault.Fault.{Fault}
 use Rattle.recovery.specs.declared.Status.{Status}
-use Rattle.recovery.specs.declared.Status.the-variants.{Pending, Done, Faulted}
+use Rattle.recovery.specs.declared.Status.the-variants.{Pending}
 use Rattle.recovery.specs.Meaning.{Meaning, Entry, has-tag, is-pending, ended, takes, with-status, delivered}
 use Rattle.pickcore.specs.declared.stages.Stage.{Stage}
 use Rattle.pickcore.specs.Cycle.{delivers}
@@ -24,7 +24,7 @@ use Rattle.precision.specs.Beside.{fate, come-to, foreseen}
 
 -- what an entry comes to
 
-ended-known : (r : Result ℕ Fault) → is-pending (ended r) ≡ false
+pub ended-known : (r : Result ℕ Fault) → is-pending (ended r) ≡ false
 ended-known (Ok w) = refl
 ended-known (Err f) = refl
 
@@ -44,15 +44,15 @@ fate-known (None ∷ xs) t y h = fate-known xs t y h
 fate-known (Some x ∷ xs) t y h = fate-past x xs t y (and-right (eqb t (x .tag)) (is-pending y) h) ∙ fate-known xs t y h
 
 -- neither does one whose tag no stage has
-other-stage : (t u : ℕ) → eqb u t ≡ false → eqb t u ≡ false
-other-stage t u h = grind (arith, tells)
+pub other-tag : (t u : ℕ) → eqb u t ≡ false → eqb t u ≡ false
+other-tag t u h = grind (arith, tells)
 
 pub fate-unstaged : (xs : List (Option Stage)) (t : ℕ) (y : Status) → staged t xs ≡ false → fate xs t y ≡ y
 fate-unstaged [] t y h = refl
 fate-unstaged (None ∷ xs) t y h = fate-unstaged xs t y h
 fate-unstaged (Some x ∷ xs) t y h =
     let p = or-parts (eqb (x .tag) t) (staged t xs) h in
-    fate-past x xs t y (and-left (eqb t (x .tag)) (is-pending y) (other-stage t (x .tag) (p .0))) ∙ fate-unstaged xs t y (p .1)
+    fate-past x xs t y (and-left (eqb t (x .tag)) (is-pending y) (other-tag t (x .tag) (p .0))) ∙ fate-unstaged xs t y (p .1)
 
 -- a free stage is taken, for another entry or for this one
 
@@ -72,7 +72,7 @@ fate-set-same t r (Some v ∷ xs) zero h n l = let z : _≡_ {A = ℕ} 0 1 = cc 
 fate-set-same t r (None ∷ xs) (suc i) h n l = fate-set-same t r xs i h n (omega arith)
 fate-set-same t r (Some v ∷ xs) (suc i) h n l =
     let p = or-parts (eqb (v .tag) t) (staged t xs) n in
-    fate-past v (set xs i (Some (record { tag = t; result = r }))) t Pending (and-left (eqb t (v .tag)) true (other-stage t (v .tag) (p .0)))
+    fate-past v (set xs i (Some (record { tag = t; result = r }))) t Pending (and-left (eqb t (v .tag)) true (other-tag t (v .tag) (p .0)))
     ∙ fate-set-same t r xs i h (p .1) (omega arith)
 
 -- a whole flight

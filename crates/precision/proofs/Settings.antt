@@ -20,7 +20,7 @@ use Rattle.isa.specs.Table.{halt, fetched, instruction, row}
 use Rattle.recovery.specs.declared.Timing.{Timing}
 use Rattle.pickcore.specs.Limits.{one-to-sixteen, delays-fit}
 use Rattle.pickcore.specs.Model.{setting}
-use Rattle.precision.specs.Fit.{Fit, longest-of, Named, Sane}
+use Rattle.precision.specs.Fit.{Fit, longest-of, Named}
 use Rattle.precision.specs.Results.{Settings-are-fit}
 
 -- the delays

@@ -2,7 +2,7 @@
 -- instruction in flight comes to, up to the first fault.
 use Prim.Native.Nat.{ℕ, _≤_, _<_}
 use mathlib.Core.Path.{_≡_}
-use mathlib.Core.Bool.{Bool, true, false, cond, _&&_}
+use mathlib.Core.Bool.{cond, _&&_}
 use mathlib.Core.List.{List, [], _∷_}
 use lib.Dec.{eqb}
 use lib.ListN.{length, replicate}
@@ -30,6 +30,7 @@ fate [] t y = y
 fate (None ∷ xs) t y = fate xs t y
 fate (Some x ∷ xs) t y = fate xs t (cond (eqb t (x .tag) && is-pending y) (ended (x .result)) y)
 
+-- the entry itself, then
 abbrev pub come-to : List (Option Stage) → Entry → Entry
 come-to xs e = with-status e (fate xs (e .tag) (e .status))
 
@@ -55,13 +56,16 @@ pub data Follows (code : ℕ → Instr) (n : ℕ) : Plain → List Entry → Typ
 
 -- a pipe with its data words, and the plain machine where its oldest instruction in flight stands
 pub record Matches (s : Setting) (q : Plain) (p : Pipe) (ws : List ℕ) : Type 0 where
+  -- registers and data words are the same
   pub registers : q .registers ≡ p .scheme .settled
   pub words : q .words ≡ ws
+  -- from there its steps give what the instructions in flight come to, up to the next instruction to issue
+  pub follows : Follows (s .code) (p .next) q (foreseen (p .stages) (p .scheme .flight))
+  -- sixteen registers, room for an instruction, and sixteen stages, each taken for one pending instruction
   pub wide : length (q .registers) ≡ 16
   pub roomy : 1 ≤ p .scheme .capacity
   pub rows : length (p .stages) ≡ 16
   pub tied : Tied (p .scheme .flight) (p .stages)
-  pub follows : Follows (s .code) (p .next) q (foreseen (p .stages) (p .scheme .flight))
 
 -- a pipe that runs, and the plain machine that is `count` steps on from its base
 pub record Runs (s : Setting) (base : Plain) (p : Pipe) (ws : List ℕ) : Type 0 where
@@ -77,6 +81,7 @@ pub record Ends (s : Setting) (base : Plain) (c : Cause) (p : Pipe) (ws : List �
   pub words : now .words ≡ ws
   pub counter : now .counter ≡ p .next
   pub fault : (f : Fault) → c ≡ cause.Fault f → executed (s .code (now .counter)) now ≡ Err f
+  -- it can be resumed: nothing is in flight and no stage is taken
   pub wide : length (now .registers) ≡ 16
   pub roomy : 1 ≤ p .scheme .capacity
   pub empty : p .scheme .flight ≡ []
