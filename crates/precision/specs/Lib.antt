@@ -1,0 +1,5 @@
+pub mod Steps
+pub mod Fit
+pub mod Beside
+pub mod Waits
+pub mod Results
