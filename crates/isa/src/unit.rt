@@ -5,7 +5,7 @@ ghost use Rattle.isa.specs.Numbers.{unit-number};
 // How many units there are: each has a delay of its own.
 pub const UNITS: usize = 4;
 
-#[derive(Clone, Copy, PartialEq, Eq, Debug)]
+#[derive(Clone, Copy)]
 pub enum ExecUnit {
     Short,
     Multiply,

@@ -1,5 +1,4 @@
 mod Fours
 mod There
-mod Texts
+pub mod Texts
 mod Back
-mod Picks

@@ -2,4 +2,3 @@ pub mod Bytes
 pub mod Jobs
 pub mod Held
 pub mod Lines
-pub mod Runs

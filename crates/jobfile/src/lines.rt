@@ -1,8 +1,12 @@
 // The lines that a program prints.
 ghost use mathlib.Core.Path.{_≡_};
 ghost use Rattle.std.specs.Of.String.{string-bytes};
+ghost use mathlib.Core.Bool.{true};
+ghost use mathlib.Core.List.{_++_};
+ghost use Prim.Native.Nat.{_<_};
+ghost use Rattle.std.specs.Results.{isOk};
 ghost use Rattle.std.specs.Vec.{made};
-ghost use Rattle.jobfile.specs.Lines.{counter-text, cycle-line, stop-line, declined-line};
+ghost use Rattle.jobfile.specs.Lines.{hex-digit, hex-byte, hex-word, counter-text, cycle-line, stop-line, declined-line};
 use isa::fault::cause_number;
 use isa::refusal::Refusal;
 use pickcore::record::CycleRecord;
@@ -47,4 +51,39 @@ pub fn declined_line(heap: Global, refusal: Refusal) -> Result<String, AllocErro
 {
     let number = refusal.number();
     format!(heap, "declined {number}\n")
+}
+
+// A hexadecimal digit.
+fn hex_digit(n: u8) -> char
+    requires { ⌜ n < 16 ⌝ }
+    ensures value { λ r. ⌜ r ≡ hex-digit n ⌝ }
+    ensures ascii { λ r. ⌜ r < 128 ⌝ }
+{
+    if n < 10 {
+        (b'0' + n) as char
+    } else {
+        (b'a' + (n - 10)) as char
+    }
+}
+
+// Appends the two hexadecimal digits of a byte.
+fn push_byte(text: &mut String, byte: u8) -> Result<(), AllocError>
+    ensures { λ r. ⌜ (isOk r ≡ true → string-bytes (now (text .exit)) ≡ string-bytes (now (text .entry)) ++ hex-byte byte) ⌝ }
+{
+    text.push(hex_digit(byte / 16))?;
+    text.push(hex_digit(byte % 16))?;
+    Ok(())
+}
+
+// Appends a word as `0x` and eight hexadecimal digits.
+pub fn push_word(text: &mut String, word: u32) -> Result<(), AllocError>
+    ensures { λ r. ⌜ (isOk r ≡ true → string-bytes (now (text .exit)) ≡ string-bytes (now (text .entry)) ++ hex-word word) ⌝ }
+{
+    let [first, second, third, last] = word.to_be_bytes();
+    text.push_str("0x")?;
+    push_byte(text, first)?;
+    push_byte(text, second)?;
+    push_byte(text, third)?;
+    push_byte(text, last)?;
+    Ok(())
 }

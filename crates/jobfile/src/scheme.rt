@@ -2,7 +2,7 @@
 ghost use mathlib.Core.Path.{_≡_};
 ghost use Rattle.jobfile.specs.Jobs.{scheme-number, scheme-at};
 
-#[derive(Clone, Copy, PartialEq, Eq, Debug)]
+#[derive(Clone, Copy)]
 pub enum Scheme {
     ReorderBuffer,
     BypassBuffer,

@@ -1,7 +1,7 @@
 // The core: results wait in sixteen stages, a cycle goes by seven rules, and callers load, resume, step and run it.
 pub mod calls;
-pub mod pipeline;
+mod pipeline;
 pub mod record;
 mod rules;
-pub mod stages;
+mod stages;
 pub mod state;

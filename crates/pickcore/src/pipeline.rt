@@ -4,8 +4,8 @@ use recovery::Recovery;
 
 #[derive(Drop)]
 pub struct Pipeline<S: Recovery> {
-    pub scheme: S,
-    pub stages: Stages,
-    pub next: u16,
-    pub count: u32,
+    pub(crate) scheme: S,
+    pub(crate) stages: Stages,
+    pub(crate) next: u16,
+    pub(crate) count: u32,
 }

@@ -28,6 +28,35 @@ use recovery::Recovery;
 use recovery::Retired;
 
 impl<S: Recovery> Pipeline<S> {
+    // One cycle: the counter that retired, and how it ended. A hold or a stop ends it.
+    pub(crate) fn cycle(
+        &mut self,
+        delays: &[u32; UNITS],
+        requested: bool,
+        program: &[u32],
+        data: &mut [u32],
+    ) -> (Option<u16>, Ending)
+        requires { ⌜ (length (now program) ≤ 4096) × (now self .count < 3999999999) ⌝ }
+        ensures retired { λ r. ⌜ r .0 ≡ retires (pipe-of meaning (now (self .entry))) ⌝ }
+        ensures turn { λ r. ⌜ Chosen (λ t. cycle (setting timing (now (delays .entry)) (now (program .entry))) requested t (pipe-of meaning (now (self .entry))) (now («data» .entry))) (flight-at-admission (pipe-of meaning (now (self .entry)))) (r .1) (record { ending = r .1; pipe = pipe-of meaning (now (self .exit)); words = now («data» .exit) }) ⌝ }
+    {
+        // rules 1 and 2
+        self.deliver_first();
+        self.stages.shift();
+        // rule 3, and then the others
+        match self.scheme.retire() {
+            Retired::Nothing => (None, self.front(delays, requested, program, data)),
+            Retired::Settled(counter) => {
+                self.count += 1;
+                (Some(counter), self.front(delays, requested, program, data))
+            }
+            Retired::Faulted(counter, fault) => {
+                self.empty(counter);
+                (None, Ending::Stopped(Cause::Fault(fault)))
+            }
+        }
+    }
+
     // Rule 1: the first stage, if taken, is delivered and emptied.
     fn deliver_first(&mut self)
         ensures { λ _. ⌜ pipe-of meaning (now (self .exit)) ≡ arrived (pipe-of meaning (now (self .entry))) ⌝ }
@@ -46,6 +75,23 @@ impl<S: Recovery> Pipeline<S> {
         self.next = counter;
     }
 
+    // Rules 4 to 7: a request that is marked comes before the next instruction.
+    fn front(
+        &mut self,
+        delays: &[u32; UNITS],
+        requested: bool,
+        program: &[u32],
+        data: &mut [u32],
+    ) -> Ending
+        requires { ⌜ (length (now program) ≤ 4096) × (now self .count < 4000000000) ⌝ }
+        ensures { λ r. ⌜ Chosen (λ t. front (setting timing (now (delays .entry)) (now (program .entry))) requested t (pipe-of meaning (now (self .entry))) (now («data» .entry))) (meaning (now (self .entry) .scheme) .flight) r (record { ending = r; pipe = pipe-of meaning (now (self .exit)); words = now («data» .exit) }) ⌝ }
+    {
+        if requested {
+            return self.drain(Hold::Request, Cause::Request);
+        }
+        self.issue(delays, program, data)
+    }
+
     // Rules 4 and 5: a stop at the next counter, once nothing is in flight; until then a hold.
     fn drain(&mut self, hold: Hold, cause: Cause) -> Ending
         ensures { λ r. ⌜ record { ending = r; pipe = pipe-of meaning (now (self .exit)) } ≡ drains (pipe-of meaning (now (self .entry))) hold cause ⌝ }
@@ -57,57 +103,25 @@ impl<S: Recovery> Pipeline<S> {
         Ending::Stopped(cause)
     }
 
-    // The words of an instruction's sources; none where one of them is awaited.
-    fn operands(&self, kind: Kind, a: u8, b: u8) -> Option<(u32, u32)>
-        ensures { λ r. ⌜ r ≡ operands (looks timing (meaning (now (self .entry) .scheme)) (sources-of kind a b)) ⌝ }
+    // Rules 5 to 7, by the next instruction.
+    fn issue(&mut self, delays: &[u32; UNITS], program: &[u32], data: &mut [u32]) -> Ending
+        requires { ⌜ (length (now program) ≤ 4096) × (now self .count < 4000000000) ⌝ }
+        ensures { λ r. ⌜ Chosen (λ t. dispatch (setting timing (now (delays .entry)) (now (program .entry))) t (pipe-of meaning (now (self .entry))) (now («data» .entry)) (fetched (now (program .entry)) (now (self .entry) .next))) (meaning (now (self .entry) .scheme) .flight) r (record { ending = r; pipe = pipe-of meaning (now (self .exit)); words = now («data» .exit) }) ⌝ }
     {
-        match kind {
-            Kind::Stop | Kind::Set => Some((0, 0)),
-            Kind::Load => Some((self.scheme.look(a)?, 0)),
-            _ => Some((self.scheme.look(a)?, self.scheme.look(b)?)),
+        let at = self.next as usize;
+        if at >= program.len() {
+            return self.drain(Hold::Flight, Cause::Fault(Fault::PastEnd));
         }
-    }
-
-    // Rules 6 and 7 for a branch: it takes no stage, and moves the counter as it issues.
-    fn branch(&mut self, kind: Kind, a: u8, b: u8, n: u16) -> Ending
-        requires { ⌜ now self .next < 65535 ⌝ }
-        ensures { λ r. ⌜ Chosen (λ t. jumping t (pipe-of meaning (now (self .entry))) (target kind n) (looks timing (meaning (now (self .entry) .scheme)) (sources-of kind a b))) (meaning (now (self .entry) .scheme) .flight) r (record { ending = r; pipe = pipe-of meaning (now (self .exit)) }) ⌝ }
-    {
-        let Some((x, y)) = self.operands(kind, a, b) else {
-            return Ending::Held(Hold::Source);
+        let Ok((kind, d, a, b, n)) = read_word(program[at]) else {
+            return self.drain(Hold::Flight, Cause::Fault(Fault::Illegal));
         };
-        let at = self.next;
-        match self.scheme.admit(at, None) {
-            Admitted::Awaited => Ending::Held(Hold::Destination),
-            Admitted::Full => Ending::Held(Hold::Capacity),
-            Admitted::Tagged(_) => {
-                self.next = if branch_taken(kind, x, y) { n } else { at + 1 };
-                Ending::Issued(at)
-            }
-        }
-    }
-
-    // Rules 6 and 7 for an instruction with a result, on a unit of this delay.
-    fn work(&mut self, kind: Kind, d: u8, a: u8, b: u8, n: u16, delay: u32, data: &[u32]) -> Ending
-        requires { ⌜ now self .next < 65535 ⌝ }
-        ensures { λ r. ⌜ Chosen (λ t. working t (pipe-of meaning (now (self .entry))) (now («data» .entry)) delay d (computes kind n) (looks timing (meaning (now (self .entry) .scheme)) (sources-of kind a b))) (meaning (now (self .entry) .scheme) .flight) r (record { ending = r; pipe = pipe-of meaning (now (self .exit)) }) ⌝ }
-    {
-        let Some((x, y)) = self.operands(kind, a, b) else {
-            return Ending::Held(Hold::Source);
-        };
-        if self.stages.is_taken(delay) {
-            return Ending::Held(Hold::Stage);
-        }
-        let at = self.next;
-        match self.scheme.admit(at, Some(d)) {
-            Admitted::Awaited => Ending::Held(Hold::Destination),
-            Admitted::Full => Ending::Held(Hold::Capacity),
-            Admitted::Tagged(tag) => {
-                let result = compute(kind, n, x, y, data);
-                self.stages.enter(delay, Stage { tag, result });
-                self.next = at + 1;
-                Ending::Issued(at)
-            }
+        match unit_of(kind) {
+            Some(unit) => self.work(kind, d, a, b, n, delays[unit.number()], data),
+            None => match kind {
+                Kind::Stop => self.drain(Hold::Flight, Cause::Fault(Fault::Stop)),
+                Kind::Store => self.store(a, b, n, data),
+                _ => self.branch(kind, a, b, n),
+            },
         }
     }
 
@@ -136,69 +150,57 @@ impl<S: Recovery> Pipeline<S> {
         }
     }
 
-    // Rules 5 to 7, by the next instruction.
-    fn issue(&mut self, delays: &[u32; UNITS], program: &[u32], data: &mut [u32]) -> Ending
-        requires { ⌜ (length (now program) ≤ 4096) × (now self .count < 4000000000) ⌝ }
-        ensures { λ r. ⌜ Chosen (λ t. dispatch (setting timing (now (delays .entry)) (now (program .entry))) t (pipe-of meaning (now (self .entry))) (now («data» .entry)) (fetched (now (program .entry)) (now (self .entry) .next))) (meaning (now (self .entry) .scheme) .flight) r (record { ending = r; pipe = pipe-of meaning (now (self .exit)); words = now («data» .exit) }) ⌝ }
+    // Rules 6 and 7 for an instruction with a result, on a unit of this delay.
+    fn work(&mut self, kind: Kind, d: u8, a: u8, b: u8, n: u16, delay: u32, data: &[u32]) -> Ending
+        requires { ⌜ now self .next < 65535 ⌝ }
+        ensures { λ r. ⌜ Chosen (λ t. working t (pipe-of meaning (now (self .entry))) (now («data» .entry)) delay d (computes kind n) (looks timing (meaning (now (self .entry) .scheme)) (sources-of kind a b))) (meaning (now (self .entry) .scheme) .flight) r (record { ending = r; pipe = pipe-of meaning (now (self .exit)) }) ⌝ }
     {
-        let at = self.next as usize;
-        if at >= program.len() {
-            return self.drain(Hold::Flight, Cause::Fault(Fault::PastEnd));
-        }
-        let Ok((kind, d, a, b, n)) = read_word(program[at]) else {
-            return self.drain(Hold::Flight, Cause::Fault(Fault::Illegal));
+        let Some((x, y)) = self.operands(kind, a, b) else {
+            return Ending::Held(Hold::Source);
         };
-        match unit_of(kind) {
-            Some(unit) => self.work(kind, d, a, b, n, delays[unit.number()], data),
-            None => match kind {
-                Kind::Stop => self.drain(Hold::Flight, Cause::Fault(Fault::Stop)),
-                Kind::Store => self.store(a, b, n, data),
-                _ => self.branch(kind, a, b, n),
-            },
+        if self.stages.is_taken(delay) {
+            return Ending::Held(Hold::Stage);
         }
-    }
-
-    // One cycle: what retired, and how it ended.
-    pub fn cycle(
-        &mut self,
-        delays: &[u32; UNITS],
-        requested: bool,
-        program: &[u32],
-        data: &mut [u32],
-    ) -> (Option<u16>, Ending)
-        requires { ⌜ (length (now program) ≤ 4096) × (now self .count < 3999999999) ⌝ }
-        ensures retired { λ r. ⌜ r .0 ≡ retires (pipe-of meaning (now (self .entry))) ⌝ }
-        ensures turn { λ r. ⌜ Chosen (λ t. cycle (setting timing (now (delays .entry)) (now (program .entry))) requested t (pipe-of meaning (now (self .entry))) (now («data» .entry))) (flight-at-admission (pipe-of meaning (now (self .entry)))) (r .1) (record { ending = r .1; pipe = pipe-of meaning (now (self .exit)); words = now («data» .exit) }) ⌝ }
-    {
-        self.deliver_first();
-        self.stages.shift();
-        match self.scheme.retire() {
-            Retired::Nothing => (None, self.front(delays, requested, program, data)),
-            Retired::Settled(counter) => {
-                self.count += 1;
-                (Some(counter), self.front(delays, requested, program, data))
-            }
-            Retired::Faulted(counter, fault) => {
-                self.empty(counter);
-                (None, Ending::Stopped(Cause::Fault(fault)))
+        let at = self.next;
+        match self.scheme.admit(at, Some(d)) {
+            Admitted::Awaited => Ending::Held(Hold::Destination),
+            Admitted::Full => Ending::Held(Hold::Capacity),
+            Admitted::Tagged(tag) => {
+                let result = compute(kind, n, x, y, data);
+                self.stages.enter(delay, Stage { tag, result });
+                self.next = at + 1;
+                Ending::Issued(at)
             }
         }
     }
 
-    // Rules 4 to 7: a request that is marked comes before the next instruction.
-    fn front(
-        &mut self,
-        delays: &[u32; UNITS],
-        requested: bool,
-        program: &[u32],
-        data: &mut [u32],
-    ) -> Ending
-        requires { ⌜ (length (now program) ≤ 4096) × (now self .count < 4000000000) ⌝ }
-        ensures { λ r. ⌜ Chosen (λ t. front (setting timing (now (delays .entry)) (now (program .entry))) requested t (pipe-of meaning (now (self .entry))) (now («data» .entry))) (meaning (now (self .entry) .scheme) .flight) r (record { ending = r; pipe = pipe-of meaning (now (self .exit)); words = now («data» .exit) }) ⌝ }
+    // Rules 6 and 7 for a branch: it takes no stage, and moves the counter as it issues.
+    fn branch(&mut self, kind: Kind, a: u8, b: u8, n: u16) -> Ending
+        requires { ⌜ now self .next < 65535 ⌝ }
+        ensures { λ r. ⌜ Chosen (λ t. jumping t (pipe-of meaning (now (self .entry))) (target kind n) (looks timing (meaning (now (self .entry) .scheme)) (sources-of kind a b))) (meaning (now (self .entry) .scheme) .flight) r (record { ending = r; pipe = pipe-of meaning (now (self .exit)) }) ⌝ }
     {
-        if requested {
-            return self.drain(Hold::Request, Cause::Request);
+        let Some((x, y)) = self.operands(kind, a, b) else {
+            return Ending::Held(Hold::Source);
+        };
+        let at = self.next;
+        match self.scheme.admit(at, None) {
+            Admitted::Awaited => Ending::Held(Hold::Destination),
+            Admitted::Full => Ending::Held(Hold::Capacity),
+            Admitted::Tagged(_) => {
+                self.next = if branch_taken(kind, x, y) { n } else { at + 1 };
+                Ending::Issued(at)
+            }
         }
-        self.issue(delays, program, data)
+    }
+
+    // The words of an instruction's sources; none where one of them is awaited.
+    fn operands(&self, kind: Kind, a: u8, b: u8) -> Option<(u32, u32)>
+        ensures { λ r. ⌜ r ≡ operands (looks timing (meaning (now (self .entry) .scheme)) (sources-of kind a b)) ⌝ }
+    {
+        match kind {
+            Kind::Stop | Kind::Set => Some((0, 0)),
+            Kind::Load => Some((self.scheme.look(a)?, 0)),
+            _ => Some((self.scheme.look(a)?, self.scheme.look(b)?)),
+        }
     }
 }

@@ -17,19 +17,19 @@ pub struct Stage {
 
 #[derive(Clone, Copy)]
 pub struct Stages {
-    pub slots: [Option<Stage>; 16],
+    slots: [Option<Stage>; 16],
     ghost sixteen: { length slots ≡ 16 },
 }
 
 impl Stages {
-    pub fn empty() -> Stages
+    pub(crate) fn empty() -> Stages
         ensures { λ r. ⌜ r .slots ≡ replicate 16 None ⌝ }
     {
         Stages { slots: [None; 16] }
     }
 
     // What is in the first stage, which is then empty.
-    pub fn take_first(&mut self) -> Option<Stage>
+    pub(crate) fn take_first(&mut self) -> Option<Stage>
         ensures answer { λ r. ⌜ r ≡ getD (now (self .entry) .slots) 0 None ⌝ }
         ensures leaves { λ _. ⌜ now (self .exit) .slots ≡ set (now (self .entry) .slots) 0 None ⌝ }
     {
@@ -39,7 +39,7 @@ impl Stages {
     }
 
     // Every stage moves one place on, and the last is empty.
-    pub fn shift(&mut self)
+    pub(crate) fn shift(&mut self)
         ensures { λ _. ⌜ now (self .exit) .slots ≡ drop 1 (now (self .entry) .slots) ++ (None ∷ []) ⌝ }
     {
         self.slots.rotate_left(1);
@@ -47,7 +47,7 @@ impl Stages {
     }
 
     // Whether the stage of a delay is taken; there is none outside 1 to 16.
-    pub fn is_taken(&self, delay: u32) -> bool
+    pub(crate) fn is_taken(&self, delay: u32) -> bool
         ensures { λ r. ⌜ r ≡ isSome (getD (now (self .entry) .slots) (delay - 1) None) ⌝ }
     {
         let at = delay.saturating_sub(1) as usize;
@@ -55,7 +55,7 @@ impl Stages {
     }
 
     // Puts a result into the stage of a delay.
-    pub fn enter(&mut self, delay: u32, stage: Stage)
+    pub(crate) fn enter(&mut self, delay: u32, stage: Stage)
         ensures { λ _. ⌜ now (self .exit) .slots ≡ set (now (self .entry) .slots) (delay - 1) (Some stage) ⌝ }
     {
         let at = delay.saturating_sub(1) as usize;

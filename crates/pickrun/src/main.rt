@@ -1,5 +1,5 @@
 // Reads a job on standard input, runs it on the core, and prints what each cycle did and how the run ended.
-use jobfile::pick::pickrun;
+use jobrun::pick::pickrun;
 use std::io;
 use std::io::Read;
 

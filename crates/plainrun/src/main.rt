@@ -1,5 +1,5 @@
 // Reads a job on standard input, runs it on the plain machine, and prints where that stands.
-use jobfile::plain::plainrun;
+use jobrun::plain::plainrun;
 use std::io;
 use std::io::Read;
 

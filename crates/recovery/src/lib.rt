@@ -10,18 +10,16 @@ pub mod search;
 pub mod slots;
 
 use isa::fault::Fault;
-use isa::fault::FaultDebug;
-use isa::fault::FaultPartialEq;
 
 // When a source may be read: early, as soon as the youngest entry that names it is done; late, once no entry names it.
-#[derive(Clone, Copy, PartialEq, Eq, Debug)]
+#[derive(Clone, Copy)]
 pub enum Timing {
     Early,
     Late,
 }
 
 // What an entry in flight has come to.
-#[derive(Clone, Copy, PartialEq, Eq, Debug)]
+#[derive(Clone, Copy)]
 pub enum Status {
     Pending,
     Done(u32),
@@ -29,7 +27,7 @@ pub enum Status {
 }
 
 // What admit answers: the destination is awaited, the flight is full, or the new entry's tag.
-#[derive(Clone, Copy, PartialEq, Eq, Debug)]
+#[derive(Clone, Copy)]
 pub enum Admitted {
     Awaited,
     Full,
@@ -37,7 +35,7 @@ pub enum Admitted {
 }
 
 // What retire answers: nothing, the counter of the entry that is settled, or that of a faulted one with its fault.
-#[derive(Clone, Copy, PartialEq, Eq, Debug)]
+#[derive(Clone, Copy)]
 pub enum Retired {
     Nothing,
     Settled(u16),
