@@ -32,9 +32,9 @@ use Rattle.recovery.specs.Meaning.{Meaning, Entry, has-tag, is-pending, deliver
 use Rattle.pickcore.specs.declared.record.Ending.{Ending}
 use Rattle.pickcore.specs.declared.record.Ending.the-variants.{Issued, Stored, Held, Stopped}
 use Rattle.pickcore.specs.declared.stages.Stage.{Stage}
-use Rattle.pickcore.specs.Limits.{stretch, delays-fit}
+use Rattle.pickcore.specs.Limits.{stretch}
 use Rattle.pickcore.specs.Cycle.{Setting, Pipe, Turn, arrived, moved, settled, emptied, delivers, front, retiring, cycle, flight-at-admission}
-use Rattle.pickcore.specs.Calls.{Machine, loaded, goes-on, after-ending, step-refusal, Step, step-turn, step-by, Steps}
+use Rattle.pickcore.specs.Calls.{Machine, goes-on, after-ending, step-refusal, Step, step-turn, step-by, Steps}
 use Rattle.pickcore.specs.Model.{setting}
 use Rattle.pickcore.specs.Sound.{Counters, Tied, Sound}
 use Rattle.pickcore.proofs.Ties.{tied-end, tied-none, tied-delivered, tied-retired, tied-more, tied-issued, counters-delivered, counters-more, length-delivered}
@@ -264,23 +264,6 @@ cause-below None = lit≤ tt
 cause-below (Some (cause.Fault f)) = fault-below f
 cause-below (Some cause.Request) = lit≤ tt
 cause-below (Some cause.Cut) = lit≤ tt
-
-pub loaded-sound : (ds : List ℕ) (c p d : ℕ) → delays-fit ds ≡ true → p ≤ 4096 → d ≤ 4096 → Sound (loaded ds c p d)
-loaded-sound ds c p d f h k = record {
-  idle = λ _. (refl, refl);
-  tied = tied-none [] 16;
-  paced = λ e. let z : _≡_ {A = ℕ} 0 1 = cc in absurd (omega arith);
-  count = omega arith;
-  cycles = omega arith;
-  next = omega arith;
-  counters = tt;
-  cause = lit≤ tt;
-  registers = refl;
-  stages = refl;
-  delays = f;
-  program = h;
-  words = k;
-}
 
 healthy : (m : Machine) → m .running ≡ true → Sound m → Healthy (m .cycles) (m .pipe)
 healthy m r h = record { tied = h .tied; paced = h .paced r; next = h .next; counters = h .counters; registers = h .registers; stages = h .stages }

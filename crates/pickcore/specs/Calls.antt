@@ -17,14 +17,14 @@ use Rattle.isa.specs.declared.refusal.Refusal.{Refusal}
 use Rattle.isa.specs.declared.refusal.Refusal.the-variants as refusal
 use Rattle.isa.specs.Numbers.{refusal-number}
 use Rattle.recovery.specs.declared.Timing.{Timing}
-use Rattle.recovery.specs.Meaning.{Meaning, has-tag, blank, fresh, look-answer}
+use Rattle.recovery.specs.Meaning.{Meaning, has-tag, blank, place-leaves, look-answer, oldest-answer}
 use Rattle.pickcore.specs.declared.record.CycleRecord.{CycleRecord}
 use Rattle.pickcore.specs.declared.record.Report.{Report}
 use Rattle.pickcore.specs.declared.record.Ending.{Ending}
 use Rattle.pickcore.specs.declared.record.Ending.the-variants.{Issued, Stored, Held, Stopped}
 use Rattle.pickcore.specs.Record.{record-of}
 use Rattle.pickcore.specs.Limits.{one-to-sixteen, delays-fit, program-fits, data-fits, stretch}
-use Rattle.pickcore.specs.Cycle.{Pipe, Turn, cycle, retires, flight-at-admission}
+use Rattle.pickcore.specs.Cycle.{Pipe, Turn, emptied, cycle, retires, flight-at-admission}
 use Rattle.pickcore.specs.Model.{setting}
 
 -- a core: the pipe that its cycles move, what it was loaded with, the cycles since the resume, whether it runs, whether
@@ -137,6 +137,42 @@ pub record Steps (k : Timing) (m : Machine) (program ws : List ℕ) (s : Step) :
   pub tag : ℕ
   pub free : has-tag tag (flight-at-admission (m .pipe)) ≡ false
   pub is : s ≡ step-of k m program ws tag
+
+-- amend, request and cut
+
+abbrev pub with-pipe : Machine → Pipe → Machine
+with-pipe m p = record { pipe = p; delays = m .delays; program-length = m .program-length; data-length = m .data-length; cycles = m .cycles; running = m .running; requested = m .requested; cause = m .cause }
+
+abbrev pub amend-refusal : Machine → ℕ → Option Refusal
+amend-refusal m register = cond (m .running) (Some refusal.Running) (cond (leb register 15) None (Some refusal.Register))
+
+-- the word goes to its register, as place does it
+abbrev pub amended : Machine → ℕ → ℕ → Machine
+amended m register word = with-pipe m (record { scheme = place-leaves (m .pipe .scheme) register word; stages = m .pipe .stages; next = m .pipe .next; count = m .pipe .count })
+
+abbrev pub amend-leaves : Machine → ℕ → ℕ → Machine
+amend-leaves m register word = unless (amend-refusal m register) (amended m register word) m
+
+-- why a request or a cut is declined
+abbrev pub stopped-refusal : Machine → Option Refusal
+stopped-refusal m = cond (m .running) None (Some refusal.Stopped)
+
+abbrev pub marked : Machine → Machine
+marked m = record { pipe = m .pipe; delays = m .delays; program-length = m .program-length; data-length = m .data-length; cycles = m .cycles; running = m .running; requested = true; cause = m .cause }
+
+abbrev pub request-leaves : Machine → Machine
+request-leaves m = unless (stopped-refusal m) (marked m) m
+
+abbrev pub counter-or : Option ℕ → ℕ → ℕ
+counter-or None next = next
+counter-or (Some c) next = c
+
+-- the flight is backed out and the stages are emptied, at the oldest entry's counter, or the next one if none flies
+abbrev pub cut-off : Machine → Machine
+cut-off m = stopped (with-pipe m (emptied (m .pipe) (counter-or (oldest-answer (m .pipe .scheme)) (m .pipe .next)))) cause.Cut
+
+abbrev pub cut-leaves : Machine → Machine
+cut-leaves m = unless (stopped-refusal m) (cut-off m) m
 
 -- run
 

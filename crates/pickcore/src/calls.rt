@@ -5,7 +5,7 @@ ghost use Prim.Native.Nat.{_+_, _<_, _≤_};
 ghost use lib.ListN.{length};
 ghost use Rattle.std.specs.Results.{isErr, isOk};
 ghost use Rattle.pickcore.specs.Limits.{one-to-sixteen, delays-fit};
-ghost use Rattle.pickcore.specs.Calls.{accepted, unloaded, load-refusal, load-leaves, resume-refusal, resume-leaves, step-refusal, stopped, Steps, Ran, Runs, report-answer, registers-answer};
+ghost use Rattle.pickcore.specs.Calls.{accepted, unloaded, load-refusal, load-leaves, resume-refusal, resume-leaves, step-refusal, stopped, Steps, amend-refusal, amend-leaves, stopped-refusal, request-leaves, cut-leaves, Ran, Runs, report-answer, registers-answer};
 ghost use Rattle.pickcore.specs.Core.{machine-of};
 ghost use Rattle.pickcore.specs.Sound.{Sound};
 use crate::pipeline::Pipeline;
@@ -182,6 +182,57 @@ impl<S: Recovery> Core<S> {
             self.stop(cause);
         }
         Ok(record)
+    }
+
+    // Puts a word into a register of a stopped core.
+    pub fn amend(&mut self, register: u32, word: u32) -> Result<(), Refusal>
+        ensures answer { λ r. ⌜ r ≡ accepted (amend-refusal (machine-of meaning (now (self .entry))) register) ⌝ }
+        ensures leaves { λ _. ⌜ machine-of meaning (now (self .exit)) ≡ amend-leaves (machine-of meaning (now (self .entry))) register word ⌝ }
+        ensures same { λ r. ⌜ (isErr r ≡ true → now (self .exit) ≡ now (self .entry)) ⌝ }
+        ensures sound { λ _. ⌜ (Sound (machine-of meaning (now (self .entry))) → Sound (machine-of meaning (now (self .exit)))) ⌝ }
+    {
+        if self.running {
+            return Err(Refusal::Running);
+        }
+        if register > 15 {
+            return Err(Refusal::Register);
+        }
+        let _ = self.pipe.scheme.place(register as u8, word);
+        Ok(())
+    }
+
+    // Marks a request: the core stops once nothing is in flight.
+    pub fn request(&mut self) -> Result<(), Refusal>
+        ensures answer { λ r. ⌜ r ≡ accepted (stopped-refusal (machine-of meaning (now (self .entry)))) ⌝ }
+        ensures leaves { λ _. ⌜ machine-of meaning (now (self .exit)) ≡ request-leaves (machine-of meaning (now (self .entry))) ⌝ }
+        ensures same { λ r. ⌜ (isErr r ≡ true → now (self .exit) ≡ now (self .entry)) ⌝ }
+        ensures sound { λ _. ⌜ (Sound (machine-of meaning (now (self .entry))) → Sound (machine-of meaning (now (self .exit)))) ⌝ }
+    {
+        if !self.running {
+            return Err(Refusal::Stopped);
+        }
+        self.requested = true;
+        Ok(())
+    }
+
+    // Stops at once: what is in flight is taken back, and the counter is the oldest entry's, or the next one if nothing
+    // is in flight.
+    pub fn cut(&mut self) -> Result<(), Refusal>
+        ensures answer { λ r. ⌜ r ≡ accepted (stopped-refusal (machine-of meaning (now (self .entry)))) ⌝ }
+        ensures leaves { λ _. ⌜ machine-of meaning (now (self .exit)) ≡ cut-leaves (machine-of meaning (now (self .entry))) ⌝ }
+        ensures same { λ r. ⌜ (isErr r ≡ true → now (self .exit) ≡ now (self .entry)) ⌝ }
+        ensures sound { λ _. ⌜ (Sound (machine-of meaning (now (self .entry))) → Sound (machine-of meaning (now (self .exit)))) ⌝ }
+    {
+        if !self.running {
+            return Err(Refusal::Stopped);
+        }
+        let counter = match self.pipe.scheme.oldest() {
+            Some(oldest) => oldest,
+            None => self.pipe.next,
+        };
+        self.pipe.empty(counter);
+        self.stop(Cause::Cut);
+        Ok(())
     }
 
     // Steps until a step is declined, as every one is after a report, or the list is full: one record for each step,

@@ -67,7 +67,7 @@ impl<S: Recovery> Pipeline<S> {
     }
 
     // Backs out the flight and empties the stages, with the counter that the core stops at.
-    fn empty(&mut self, counter: u16)
+    pub(crate) fn empty(&mut self, counter: u16)
         ensures { λ _. ⌜ pipe-of meaning (now (self .exit)) ≡ emptied (pipe-of meaning (now (self .entry))) counter ⌝ }
     {
         self.scheme.back_out();
