@@ -5,7 +5,6 @@ use isa::fault::Cause;
 use isa::fault::CauseDebug;
 use isa::fault::CausePartialEq;
 use isa::fault::Fault;
-use isa::fault::FaultPartialEq;
 use std::test::*;
 
 const SETTING: Setting = Setting {
@@ -59,10 +58,9 @@ fn results_and_faults() -> Result<(), Fail> {
             Ok(result) => (Fault::Stop, 3, result),
             Err(fault) => (fault, 2, 0),
         };
-        check_eq(end.cause, Some(Cause::Fault(cause))).note(word)?;
-        check_eq((end.counter, end.count), (counter, counter as u32)).note(word)?;
-        check_eq((end.registers[1], end.registers[2]), (x, y)).note(word)?;
-        check_eq(end.registers[3], left).note(word)?;
+        let words = (end.registers[1], end.registers[2], end.registers[3]);
+        let stop = (end.cause, end.counter, words);
+        check_eq(stop, (Some(Cause::Fault(cause)), counter, (x, y, left))).note(word)?;
     }
     Ok(())
 }
@@ -80,9 +78,8 @@ fn past_the_end() -> Result<(), Fail> {
         (0xb001_0003, 3, 2, 0),
     ] {
         let end = agreed(SETTING, &[0x1100_0007, branch, 0x1200_0009], [0; 4])?;
-        check_eq(end.cause, past).note(branch)?;
-        check_eq((end.counter, end.count), (counter, count)).note(branch)?;
-        check_eq((end.registers[1], end.registers[2]), (7, word)).note(branch)?;
+        let stop = (end.cause, end.counter, end.count, end.registers[2]);
+        check_eq(stop, (past, counter, count, word)).note(branch)?;
     }
     Ok(())
 }
@@ -141,11 +138,8 @@ fn addresses() -> Result<(), Fail> {
         // set R4 1, set R5 99, the base, the access, stop
         let program = [0x1400_0001, 0x1500_0063, base, word, 0];
         let end = agreed(SETTING, &program, [10, 20, 30, 40])?;
-        let counter = if cause == Fault::Stop { 4 } else { 3 };
-        check_eq(end.cause, Some(Cause::Fault(cause))).note(word)?;
-        check_eq((end.counter, end.count), (counter, counter as u32)).note(word)?;
-        check_eq(end.registers[2], loaded).note(word)?;
-        check_eq(end.data, data).note(word)?;
+        let stop = (end.cause, end.registers[2], end.data);
+        check_eq(stop, (Some(Cause::Fault(cause)), loaded, data)).note(word)?;
     }
     Ok(())
 }
@@ -161,8 +155,10 @@ fn numbers() -> Result<(), Fail> {
         (Fault::PastEnd, 5),
         (Fault::Stop, 6),
     ] {
-        check_eq(fault.number(), number)?;
-        check_eq(Cause::Fault(fault).number(), number)?;
+        check_eq(
+            (fault.number(), Cause::Fault(fault).number()),
+            (number, number),
+        )?;
     }
     check_eq((Cause::Request.number(), Cause::Cut.number()), (7, 8))
 }

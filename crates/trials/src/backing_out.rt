@@ -1,11 +1,7 @@
 // Faults with other instructions in flight: the oldest is reported, and all behind it is undone.
 use crate::bench::BLANK;
-use crate::bench::Outcome;
-use crate::bench::OutcomeDebug;
-use crate::bench::OutcomePartialEq;
 use crate::bench::Setting;
 use crate::bench::agreed;
-use crate::bench::outcome_of;
 use crate::bench::run_on;
 use crate::bench::started;
 use future::FutureFile;
@@ -16,8 +12,12 @@ use isa::fault::Cause;
 use isa::fault::CauseDebug;
 use isa::fault::CausePartialEq;
 use isa::fault::Fault;
+use isa::refusal::Refusal;
 use isa::refusal::RefusalDebug;
 use isa::refusal::RefusalPartialEq;
+use pickcore::record::Report;
+use pickcore::record::ReportDebug;
+use pickcore::record::ReportPartialEq;
 use pickcore::state::Core;
 use recovery::Recovery;
 use reorder::BypassBuffer;
@@ -25,6 +25,9 @@ use reorder::BypassBufferRecovery;
 use reorder::ReorderBuffer;
 use reorder::ReorderBufferRecovery;
 use std::test::*;
+
+// What a core answers to report and registers.
+type Answers = (Result<Report, Refusal>, ([u32; 16], u32));
 
 // A divide takes long, so that a short instruction behind it is delivered first, and a multiply longer still.
 const SLOW_DIVIDE: Setting = Setting {
@@ -38,8 +41,8 @@ fn older_fault_is_reported() -> Result<(), Fail> {
     // load R1 2,147,483,647; set R2 1; divide R3 by R0; checked add R4 of R1 and R2; stop
     let program = [0x8100_0000, 0x1200_0001, 0x6310_0000, 0x7412_0000, 0];
     let end = agreed(SLOW_DIVIDE, &program, [0x7fff_ffff, 0, 0, 0])?;
-    check_eq(end.cause, Some(Cause::Fault(Fault::DivideByZero)))?;
-    check_eq((end.counter, end.count), (2, 2))
+    let stop = (end.cause, end.counter, end.count);
+    check_eq(stop, (Some(Cause::Fault(Fault::DivideByZero)), 2, 2))
 }
 
 // Writes of R5 behind a fault are undone, up to two at once, and those before it stay.
@@ -55,8 +58,8 @@ fn writes_behind_a_fault_are_undone() -> Result<(), Fail> {
         ([0x1500_0007, 0x6310_0000, 0x1500_0008, 0x5511_0000, 0], 7),
     ] {
         let end = agreed(SLOW_DIVIDE, &program, [0; 4])?;
-        check_eq(end.cause, Some(Cause::Fault(Fault::DivideByZero)))?;
-        check_eq(end.registers[5], kept)?;
+        let stop = (end.cause, end.registers[5]);
+        check_eq(stop, (Some(Cause::Fault(Fault::DivideByZero)), kept))?;
     }
     Ok(())
 }
@@ -74,9 +77,14 @@ fn tags_are_used_again() -> Result<(), Fail> {
         0,
     ];
     let end = agreed(SLOW_DIVIDE, &program, [0; 4])?;
-    check_eq(end.cause, Some(Cause::Fault(Fault::Stop)))?;
-    check_eq((end.counter, end.count), (5, 902))?;
-    check_eq((end.registers[1], end.registers[3]), (0, 45150))
+    let stop = (end.cause, end.count, end.registers[1], end.registers[3]);
+    check_eq(stop, (Some(Cause::Fault(Fault::Stop)), 902, 0, 45150))
+}
+
+// What a core with no data words comes to.
+fn ended<S: Recovery>(core: &mut Core<S>, program: &[u32]) -> Answers {
+    run_on(core, program, &mut [], &mut [BLANK; 64]);
+    (core.report(), core.registers())
 }
 
 // After a fault nothing stays on its way: a result from before it would else be taken for one that comes later.
@@ -98,33 +106,31 @@ fn nothing_is_left<S: Recovery + Drop>() -> Result<(), Fail> {
         0x2867_0000,
         0x0000_0000,
     ];
-    let mut data = [0; 4];
-    let mut core: Core<S> = started(setting, &program, &data)?;
+    let mut core: Core<S> = started(setting, &program, &[])?;
+    let first = ended(&mut core, &program);
+    let resumed = core.resume(5);
+    let second = ended(&mut core, &program);
     let mut registers = [0; 16];
     registers[1] = 3;
     registers[2] = 5;
-    run_on(&mut core, &program, &mut data, &mut [BLANK; 64]);
-    let expected = Outcome {
+    let report = Report {
         cause: Some(Cause::Fault(Fault::DivideByZero)),
         counter: 2,
         count: 2,
-        registers,
-        data: [0; 4],
     };
-    check_eq(outcome_of(&core, data), Ok(expected))?;
-    core.resume(5)?;
-    run_on(&mut core, &program, &mut data, &mut [BLANK; 64]);
+    let before = (Ok(report), (registers, 0));
     registers[6] = 9;
     registers[7] = 25;
     registers[8] = 34;
-    let expected = Outcome {
+    let report = Report {
         cause: Some(Cause::Fault(Fault::Stop)),
         counter: 8,
         count: 3,
-        registers,
-        data: [0; 4],
     };
-    check_eq(outcome_of(&core, data), Ok(expected))
+    check_eq(
+        (first, resumed, second),
+        (before, Ok(()), (Ok(report), (registers, 0))),
+    )
 }
 
 #[test]

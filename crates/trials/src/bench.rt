@@ -10,6 +10,7 @@ use isa::fault::Fault;
 use isa::plain::PlainMachine;
 use isa::refusal::Refusal;
 use isa::refusal::RefusalDebug;
+use isa::refusal::RefusalPartialEq;
 use isa::unit::UNITS;
 use pickcore::record::CycleRecord;
 use pickcore::state::Core;
@@ -46,7 +47,7 @@ pub struct Outcome {
 }
 
 // A length that a core is loaded with; one that is too long is declined there.
-pub fn length_of(words: &[u32]) -> u32 {
+fn length_of(words: &[u32]) -> u32 {
     u32::try_from(words.len()).unwrap_or(u32::MAX)
 }
 
@@ -82,7 +83,7 @@ pub fn run_on<S: Recovery>(
 }
 
 // What a core that is stopped has come to.
-pub fn outcome_of<S: Recovery>(core: &Core<S>, data: [u32; 4]) -> Result<Outcome, Refusal> {
+fn outcome_of<S: Recovery>(core: &Core<S>, data: [u32; 4]) -> Result<Outcome, Refusal> {
     let report = core.report()?;
     let (registers, _) = core.registers();
     Ok(Outcome {
@@ -106,17 +107,17 @@ fn core_outcome<S: Recovery + Drop>(
 }
 
 // The outcomes under the four schemes, by number.
-pub fn core_outcomes(
+fn core_outcomes(
     setting: Setting,
     program: &[u32],
     data: [u32; 4],
-) -> Result<[Outcome; 4], Refusal> {
-    Ok([
-        core_outcome::<ReorderBuffer>(setting, program, data)?,
-        core_outcome::<BypassBuffer>(setting, program, data)?,
-        core_outcome::<HistoryBuffer>(setting, program, data)?,
-        core_outcome::<FutureFile>(setting, program, data)?,
-    ])
+) -> [Result<Outcome, Refusal>; 4] {
+    [
+        core_outcome::<ReorderBuffer>(setting, program, data),
+        core_outcome::<BypassBuffer>(setting, program, data),
+        core_outcome::<HistoryBuffer>(setting, program, data),
+        core_outcome::<FutureFile>(setting, program, data),
+    ]
 }
 
 // Steps until a fault, two thousand times at most; how many steps there were, and the fault.
@@ -134,7 +135,7 @@ fn run_plain(
 }
 
 // The outcome on the plain machine, if it comes to a fault.
-pub fn plain_outcome(program: &[u32], data: [u32; 4]) -> Option<Outcome> {
+fn plain_outcome(program: &[u32], data: [u32; 4]) -> Option<Outcome> {
     let mut data = data;
     let mut machine = PlainMachine::new();
     let (count, fault) = run_plain(&mut machine, program, &mut data)?;
@@ -150,8 +151,8 @@ pub fn plain_outcome(program: &[u32], data: [u32; 4]) -> Option<Outcome> {
 // The outcome of a program, which the plain machine and the core under each scheme agree on.
 pub fn agreed(setting: Setting, program: &[u32], data: [u32; 4]) -> Result<Outcome, Fail> {
     let outcome = plain_outcome(program, data).ok_or("the plain machine goes on")?;
-    for other in core_outcomes(setting, program, data)? {
-        check_eq(other, outcome)?;
+    for other in core_outcomes(setting, program, data) {
+        check_eq(other, Ok(outcome))?;
     }
     Ok(outcome)
 }

@@ -52,68 +52,79 @@ const FILLER: CycleRecord = CycleRecord {
     cause: None,
 };
 
-// A step and a run with these words are declined, and the words and the list stay.
-fn declines_to_move<S: Recovery>(
+// Why a step and a run, with a list and with an empty one, are declined, if each is for the same reason and the list
+// stays.
+fn refusal_to_move<S: Recovery>(
     core: &mut Core<S>,
     program: &[u32],
     data: &mut [u32],
-    refusal: Refusal,
-) -> Result<(), Fail> {
+) -> Option<Refusal> {
     let mut records = [FILLER; 3];
-    check_eq(core.step(program, data), Err(refusal))?;
-    check_eq(core.run(program, data, &mut records), Err(refusal))?;
-    check_eq(core.run(program, data, &mut []), Err(refusal))?;
-    check_eq(records, [FILLER; 3])
+    let step = core.step(program, data).err();
+    let run = core.run(program, data, &mut records).err();
+    let empty = core.run(program, data, &mut []).err();
+    if (run, empty, records) == (step, step, [FILLER; 3]) {
+        step
+    } else {
+        None
+    }
 }
 
-// What a stopped core declines. A step is declined as stopped whatever its lengths are.
-fn declines_stopped<S: Recovery>(core: &mut Core<S>, program: &[u32]) -> Result<(), Fail> {
+// The same with too short a program, too many data words, both, and too few data words; the words stay.
+fn refusals_to_move<S: Recovery>(
+    core: &mut Core<S>,
+    program: &[u32],
+) -> Result<[Option<Refusal>; 4], Fail> {
+    let mut data = [1, 2, 3, 4];
+    let mut longer = [1, 2, 3, 4, 5];
+    let refusals = [
+        refusal_to_move(core, &[], &mut data),
+        refusal_to_move(core, program, &mut longer),
+        refusal_to_move(core, &[], &mut longer),
+        refusal_to_move(core, program, &mut []),
+    ];
+    check_eq((data, longer), ([1, 2, 3, 4], [1, 2, 3, 4, 5]))?;
+    Ok(refusals)
+}
+
+// Loads that no core takes.
+fn declines_to_load<S: Recovery>(core: &mut Core<S>, running: bool) -> Result<(), Fail> {
     for (delays, capacity, program_length, data_length, refusal) in UNFIT {
         let answer = core.load(delays, capacity, program_length, data_length);
-        check_eq(answer, Err(refusal))?;
+        check_eq(
+            answer,
+            Err(if running { Refusal::Running } else { refusal }),
+        )?;
     }
-    check_eq(core.resume(65536), Err(Refusal::Counter))?;
-    check_eq(core.resume(0xffff_ffff), Err(Refusal::Counter))?;
-    let mut data = [1, 2, 3, 4];
-    declines_to_move(core, program, &mut data, Refusal::Stopped)?;
-    declines_to_move(core, &[], &mut data, Refusal::Stopped)?;
-    check_eq(data, [1, 2, 3, 4])
+    Ok(())
 }
 
-// What a running core declines, where the program and 4 data words are what it was loaded with: any load and resume,
-// fit or unfit, a report and the registers, and steps of another length.
-fn declines_running<S: Recovery>(core: &mut Core<S>, program: &[u32]) -> Result<(), Fail> {
-    for (delays, capacity, program_length, data_length, _) in UNFIT {
-        let answer = core.load(delays, capacity, program_length, data_length);
-        check_eq(answer, Err(Refusal::Running))?;
-    }
-    check_eq(core.load([2, 4, 5, 3], 4, 4, 4), Err(Refusal::Running))?;
-    check_eq(core.resume(0), Err(Refusal::Running))?;
-    check_eq(core.resume(65536), Err(Refusal::Running))?;
-    check_eq(core.report(), Err(Refusal::Running))?;
-    check_eq(core.registers(), ([0; 16], 6))?;
-    let mut data = [1, 2, 3, 4];
-    declines_to_move(core, &[], &mut data, Refusal::Length)?;
-    check_eq(data, [1, 2, 3, 4])?;
-    let mut longer = [1, 2, 3, 4, 5];
-    declines_to_move(core, program, &mut longer, Refusal::Length)?;
-    declines_to_move(core, &[], &mut longer, Refusal::Length)?;
-    check_eq(longer, [1, 2, 3, 4, 5])?;
-    declines_to_move(core, program, &mut [], Refusal::Length)
+// What only a running core declines.
+fn declines_running<S: Recovery>(core: &mut Core<S>) -> Result<(), Fail> {
+    let running = Err(Refusal::Running);
+    let answers = (core.load([2, 4, 5, 3], 4, 7, 4), core.resume(0));
+    check_eq(answers, (running, running))?;
+    check_eq(
+        (core.report(), core.registers()),
+        (Err(Refusal::Running), ([0; 16], 6)),
+    )
 }
 
+// What a core declines that was loaded with this program and 4 data words, or never: the length of a step is looked at
+// only while it runs.
 fn declines<S: Recovery>(core: &mut Core<S>, program: &[u32]) -> Result<(), Fail> {
-    if core.report().is_ok() {
-        declines_stopped(core, program)
-    } else {
-        declines_running(core, program)
+    let running = core.report().is_err();
+    declines_to_load(core, running)?;
+    if running {
+        declines_running(core)?;
     }
-}
-
-// Two cores answer alike.
-fn alike<S: Recovery>(one: &Core<S>, other: &Core<S>) -> Result<(), Fail> {
-    check_eq(one.report(), other.report())?;
-    check_eq(one.registers(), other.registers())
+    let (resume, step) = if running {
+        (Refusal::Running, Refusal::Length)
+    } else {
+        (Refusal::Counter, Refusal::Stopped)
+    };
+    check_eq(core.resume(65536), Err(resume))?;
+    check_eq(refusals_to_move(core, program)?, [Some(step); 4])
 }
 
 // A core, and the data words that it works on.
@@ -121,6 +132,15 @@ fn alike<S: Recovery>(one: &Core<S>, other: &Core<S>) -> Result<(), Fail> {
 struct Worker<S: Recovery> {
     core: Core<S>,
     data: [u32; 4],
+}
+
+impl<S: Recovery> Worker<S> {
+    fn new() -> Worker<S> {
+        Worker {
+            core: Core::new(),
+            data: [1, 2, 3, 4],
+        }
+    }
 }
 
 // Two cores go on alike for a few cycles.
@@ -131,17 +151,34 @@ fn go_on_alike<S: Recovery>(
 ) -> Result<(), Fail> {
     let mut records = [FILLER; 3];
     let mut other_records = records;
-    let answer = one.core.run(program, &mut one.data, &mut records);
+    let ran = one.core.run(program, &mut one.data, &mut records);
+    let other_ran = other.core.run(program, &mut other.data, &mut other_records);
     check_eq(
-        other.core.run(program, &mut other.data, &mut other_records),
-        answer,
+        (other_ran, other_records, other.data),
+        (ran, records, one.data),
     )?;
-    check_eq(other.data, one.data)?;
-    check_eq(other_records, records)?;
-    alike(&one.core, &other.core)
+    let answers = (one.core.report(), one.core.registers());
+    check_eq((other.core.report(), other.core.registers()), answers)
 }
 
-// A core that is asked what it declines, before and after each few cycles, goes on as one that is not.
+// Two cores are resumed and go on alike, where one is asked, before and after each few cycles, what it declines.
+fn resume_alike<S: Recovery>(
+    asked: &mut Worker<S>,
+    unasked: &mut Worker<S>,
+    program: &[u32],
+    counter: u32,
+) -> Result<(), Fail> {
+    declines(&mut asked.core, program)?;
+    let resumes = (asked.core.resume(counter), unasked.core.resume(counter));
+    check_eq(resumes, (Ok(()), Ok(())))?;
+    for _ in 0..8 {
+        declines(&mut asked.core, program)?;
+        go_on_alike(asked, unasked, program)?;
+    }
+    Ok(())
+}
+
+// Declined calls change nothing: a core that makes many goes on as one that makes none.
 fn declined_calls_change_nothing<S: Recovery + Drop>() -> Result<(), Fail> {
     // set R1 7, store R1 to word 0, load R2 from it, multiply R3 of R1 and R2, divide R4 by R0, set R3 9, stop
     let program = [
@@ -153,33 +190,25 @@ fn declined_calls_change_nothing<S: Recovery + Drop>() -> Result<(), Fail> {
         0x1300_0009,
         0x0000_0000,
     ];
-    let mut asked: Worker<S> = Worker {
-        core: Core::new(),
-        data: [1, 2, 3, 4],
-    };
-    let mut unasked: Worker<S> = Worker {
-        core: Core::new(),
-        data: [1, 2, 3, 4],
-    };
-    declines_stopped(&mut asked.core, &program)?;
-    alike(&asked.core, &unasked.core)?;
-    asked.core.load([2, 4, 5, 3], 4, 7, 4)?;
-    unasked.core.load([2, 4, 5, 3], 4, 7, 4)?;
-    for counter in [0, 5] {
-        declines_stopped(&mut asked.core, &program)?;
-        alike(&asked.core, &unasked.core)?;
-        asked.core.resume(counter)?;
-        unasked.core.resume(counter)?;
-        declines_running(&mut asked.core, &program)?;
-        for _ in 0..8 {
-            go_on_alike(&mut asked, &mut unasked, &program)?;
-            declines(&mut asked.core, &program)?;
-        }
-    }
-    // the second run was past the divide
-    let (registers, _) = asked.core.registers();
-    check_eq((registers[1], registers[2], registers[3]), (7, 7, 9))?;
-    check_eq(asked.data, [7, 2, 3, 4])
+    let mut asked: Worker<S> = Worker::new();
+    let mut unasked: Worker<S> = Worker::new();
+    declines(&mut asked.core, &program)?;
+    let loads = (
+        asked.core.load([2, 4, 5, 3], 4, 7, 4),
+        unasked.core.load([2, 4, 5, 3], 4, 7, 4),
+    );
+    check_eq(loads, (Ok(()), Ok(())))?;
+    resume_alike(&mut asked, &mut unasked, &program, 0)?;
+    // past the divide, which stopped the cores
+    resume_alike(&mut asked, &mut unasked, &program, 5)?;
+    let mut registers = [0; 16];
+    registers[1] = 7;
+    registers[2] = 7;
+    registers[3] = 9;
+    check_eq(
+        (asked.core.registers(), asked.data),
+        ((registers, 0), [7, 2, 3, 4]),
+    )
 }
 
 #[test]
@@ -193,21 +222,18 @@ fn declined_calls() -> Result<(), Fail> {
 // The ends of what a load and a resume take.
 fn takes_the_ends<S: Recovery + Drop>() -> Result<(), Fail> {
     let mut core: Core<S> = Core::new();
-    check_eq(core.load([16; 4], 16, 4096, 4096), Ok(()))?;
-    check_eq(core.load([1; 4], 1, 1, 0), Ok(()))?;
-    check_eq(core.resume(65535), Ok(()))?;
-    let stop = CycleRecord {
-        retired: None,
-        issued: None,
-        hold: None,
-        cause: Some(Cause::Fault(Fault::PastEnd)),
-    };
-    check_eq(core.step(&[0], &mut []), Ok(stop))?;
+    let loads = (
+        core.load([16; 4], 16, 4096, 4096),
+        core.load([1; 4], 1, 1, 0),
+    );
+    let resumed = core.resume(65535);
+    let stepped = core.step(&[0], &mut []).is_ok();
     let report = Report {
         cause: Some(Cause::Fault(Fault::PastEnd)),
         counter: 65535,
         count: 0,
     };
+    check_eq((loads, resumed, stepped), ((Ok(()), Ok(())), Ok(()), true))?;
     check_eq(core.report(), Ok(report))
 }
 
@@ -233,6 +259,30 @@ fn fill_often<S: Recovery>(
     Ok(())
 }
 
+// The one cycle that is left, in which a branch to itself retires and issues.
+fn last_cycle<S: Recovery>(core: &mut Core<S>, program: &[u32]) -> Result<(), Fail> {
+    let turn = CycleRecord {
+        retired: Some(0),
+        issued: Some(0),
+        hold: None,
+        cause: None,
+    };
+    let mut records = [FILLER; 3];
+    let ran = core.run(program, &mut [], &mut records);
+    check_eq((ran, records), (Ok(1), [turn, FILLER, FILLER]))?;
+    let declined = (
+        refusal_to_move(core, program, &mut []),
+        refusal_to_move(core, &[], &mut []),
+        core.report(),
+    );
+    let expected = (
+        Some(Refusal::Stretch),
+        Some(Refusal::Length),
+        Err(Refusal::Running),
+    );
+    check_eq(declined, expected)
+}
+
 // The millionth cycle since a resume is the last: here of a branch to itself.
 fn stretch<S: Recovery + Drop>() -> Result<(), Fail> {
     let setting = Setting {
@@ -242,18 +292,7 @@ fn stretch<S: Recovery + Drop>() -> Result<(), Fail> {
     let program = [0xa000_0000];
     let mut core: Core<S> = started(setting, &program, &[])?;
     fill_often(&mut core, &program, &mut [BLANK; 999], 1001)?;
-    let turn = CycleRecord {
-        retired: Some(0),
-        issued: Some(0),
-        hold: None,
-        cause: None,
-    };
-    let mut records = [FILLER; 3];
-    check_eq(core.run(&program, &mut [], &mut records), Ok(1))?;
-    check_eq(records, [turn, FILLER, FILLER])?;
-    declines_to_move(&mut core, &program, &mut [], Refusal::Stretch)?;
-    declines_to_move(&mut core, &[], &mut [], Refusal::Length)?;
-    check_eq(core.report(), Err(Refusal::Running))
+    last_cycle(&mut core, &program)
 }
 
 #[test]

@@ -88,20 +88,26 @@ const UNWRITABLE: [Fields; 24] = [
 fn legal_words_are_written_and_read() -> Result<(), Fail> {
     for (word, fields) in LEGAL {
         let (kind, d, a, b, n) = fields;
-        check_eq(write_word(kind, d, a, b, n), Ok(word))?;
-        check_eq(read_word(word), Ok(fields))?;
+        let both = (write_word(kind, d, a, b, n), read_word(word));
+        check_eq(both, (Ok(word), Ok(fields)))?;
     }
     Ok(())
 }
 
-// A field that the kind does not use, a kind above 11 or a register above 15 is no instruction.
+// A word of a kind above 11, or with a field that its kind does not use, is no instruction.
 #[test]
-fn other_words_are_declined() -> Result<(), Fail> {
+fn other_words_are_not_read() -> Result<(), Fail> {
     for word in ILLEGAL {
         check_eq(read_word(word), Err(Refusal::NotAnInstruction)).note(word)?;
     }
+    Ok(())
+}
+
+// Nor is there a word of a register above 15, or of a field that the kind does not use.
+#[test]
+fn other_fields_are_not_written() -> Result<(), Fail> {
     for (kind, d, a, b, n) in UNWRITABLE {
         check_eq(write_word(kind, d, a, b, n), Err(Refusal::NotAnInstruction))?;
     }
-    check_eq(Refusal::NotAnInstruction.number(), 14)
+    Ok(())
 }
