@@ -201,13 +201,14 @@ fn declined_calls_change_nothing<S: Recovery + Drop>() -> Result<(), Fail> {
     resume_alike(&mut asked, &mut unasked, &program, 0)?;
     // past the divide, which stopped the cores
     resume_alike(&mut asked, &mut unasked, &program, 5)?;
+    let stopped = refusal_to_move(&mut asked.core, &program, &mut asked.data);
     let mut registers = [0; 16];
     registers[1] = 7;
     registers[2] = 7;
     registers[3] = 9;
     check_eq(
-        (asked.core.registers(), asked.data),
-        ((registers, 0), [7, 2, 3, 4]),
+        (stopped, asked.core.registers(), asked.data),
+        (Some(Refusal::Stopped), (registers, 0), [7, 2, 3, 4]),
     )
 }
 
