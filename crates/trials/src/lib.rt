@@ -1,4 +1,5 @@
-// Trials on examples: instruction words, the plain machine, and the core over each of the four recovery schemes.
+// Trials on examples: instruction words, the plain machine, the core over each of the four recovery schemes, and what
+// the programs print.
 #[cfg(test)]
 mod arithmetic;
 #[cfg(test)]
@@ -8,6 +9,10 @@ mod bench;
 #[cfg(test)]
 mod cycles;
 #[cfg(test)]
+mod programs;
+#[cfg(test)]
 mod refusals;
+#[cfg(test)]
+mod stops;
 #[cfg(test)]
 mod words;
