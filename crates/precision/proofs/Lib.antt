@@ -5,3 +5,4 @@ pub mod Turns
 pub mod Places
 pub mod Waits
 pub mod Settings
+pub mod Lists

@@ -3,3 +3,4 @@ pub mod Fit
 pub mod Beside
 pub mod Waits
 pub mod Results
+pub mod Lists
