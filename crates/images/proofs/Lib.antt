@@ -1,0 +1,3 @@
+mod Fronts
+mod Places
+mod Trip

@@ -1,0 +1,5 @@
+pub mod Words
+pub mod Causes
+pub mod Image
+pub mod State
+pub mod Laws
