@@ -1,12 +1,12 @@
 -- Words read and written again are the same, and so is a state written and read.
-use mathlib.Core.Path.{_≡_, refl, sym, ap, subst, _∙_}
+use mathlib.Core.Path.{_≡_, refl, sym, ap, _∙_}
 use mathlib.Core.Bool.{Bool, true, false, cond, _&&_}
 use mathlib.Core.List.{List, [], _∷_, _++_}
-use Prim.Native.Nat.{ℕ, _+_, _-_, _*_, _/_, _%_, _^_, _<_, _≤_}
+use Prim.Native.Nat.{ℕ, _+_, _*_, _/_, _%_, _^_, _<_, _≤_}
 use native.Mathlib.Omega.{arith}
-use lib.Dec.{eqb, ltb, leb, lit≤}
+use lib.Dec.{eqb, leb, lit≤}
 use lib.ListN.{length, getD, take, drop}
-use Rattle.std.proofs.shelf.Lists.{take-append-drop, length-take-le, length-drop, length-append, take-at, getD-append-right, drop-more, drop-all}
+use Rattle.std.proofs.shelf.Lists.{take-append-drop, length-take-le, length-append, take-at, getD-append-right, drop-more, drop-all}
 use Rattle.std.proofs.shelf.Tests.{and-parts, and-from, eq-eqb, eqb-true, le-leb, leb-true, cond-true}
 use Rattle.std.proofs.shelf.Ways.{tells}
 use Rattle.std.specs.shelf.Lists.{All}
@@ -14,17 +14,15 @@ use Rattle.std.specs.declared.option.Option.{Option}
 use Rattle.std.specs.declared.option.Option.the-variants.{Some, None}
 use Rattle.std.specs.declared.result.Result.{Result}
 use Rattle.std.specs.declared.result.Result.the-variants.{Ok, Err}
-use Rattle.isa.specs.declared.fault.Fault.{Fault}
 use Rattle.isa.specs.declared.fault.Fault.the-variants as fault
 use Rattle.isa.specs.declared.fault.Cause.{Cause}
 use Rattle.isa.specs.declared.fault.Cause.the-variants as cause
-use Rattle.isa.specs.declared.refusal.Refusal.{Refusal}
 use Rattle.isa.specs.declared.refusal.Refusal.the-variants.{ImageLength}
-use Rattle.isa.specs.Numbers.{fault-number, cause-number, cause-or-0}
+use Rattle.isa.specs.Numbers.{cause-or-0}
 use Rattle.images.specs.declared.read.BadWord.{BadWord}
 use Rattle.images.specs.Causes.{cause-of}
-use Rattle.images.specs.Words.{word-of, then, bad, value-read, half-read, register-read}
-use Rattle.images.specs.Image.{Snapshot, register-words, tail-words, end-word, image-words, registers-read, named, cause-read, tail-read, snapshot, state-read, refused, read-words}
+use Rattle.images.specs.Words.{word-of, then, value-read, half-read, register-read}
+use Rattle.images.specs.Image.{Snapshot, register-words, tail-words, end-word, image-words, registers-read, named, cause-read, tail-read, snapshot, state-read, refused}
 use Rattle.images.specs.Laws.{Read-then-write, Write-then-read}
 use Rattle.images.proofs.Places.{length-register-words}
 
@@ -141,7 +139,7 @@ tail-back n m c h g =
     rw (ea, eb, cause-back c, ec)
 
 -- the last four of 36 words
-last-four : (ws : List ℕ) → length ws ≡ 36 → drop 32 ws ≡ getD ws 32 0 ∷ getD ws 33 0 ∷ getD ws 34 0 ∷ getD ws 35 0 ∷ []
+pub last-four : (ws : List ℕ) → length ws ≡ 36 → drop 32 ws ≡ getD ws 32 0 ∷ getD ws 33 0 ∷ getD ws 34 0 ∷ getD ws 35 0 ∷ []
 last-four ws l =
     let a = drop-more ws 32 0 (omega arith) in
     let b = drop-more ws 33 0 (omega arith) in

@@ -2,4 +2,5 @@ pub mod Words
 pub mod Causes
 pub mod Image
 pub mod State
+pub mod Rules
 pub mod Laws

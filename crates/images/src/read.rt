@@ -28,12 +28,12 @@ use isa::fault::Fault;
 use isa::refusal::Refusal;
 
 // A word that breaks its rule, by its place in the image.
-#[derive(Clone, Copy, PartialEq, Eq, Debug)]
-pub struct BadWord {
-    pub index: usize,
+#[derive(Clone, Copy)]
+struct BadWord {
+    index: usize,
 }
 
-pub impl From<BadWord> for Refusal as RefusalFromBadWord {
+impl From<BadWord> for Refusal as RefusalFromBadWord {
     ghost converts = { λ bad r. r ≡ ImageWord (bad .index) };
 
     fn from(bad: BadWord) -> Refusal {
