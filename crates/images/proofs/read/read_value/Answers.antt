@@ -9,7 +9,7 @@ use Rattle.images.proofs.read.read_value.Needs as need
 pub returns-then-value-most : need.returns-then-value-most
 returns-then-value-most c =
     let m : bitAnd (c .args .word) 16777215 ≡ c .args .word % 2 ^ 24 = and-mask (c .args .word) 24 in
-    record { answer = rw m (grind (arith, tells)); within = omega arith }
+    record { answer = grind (arith, tells); within = omega arith }
 
 pub returns-else-word-kind : need.returns-else-word-kind
 returns-else-word-kind c =
