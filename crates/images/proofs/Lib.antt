@@ -1,0 +1,4 @@
+mod Fronts
+mod Places
+mod Ruled
+mod Trip
