@@ -101,8 +101,11 @@ seen-in k delays capacity program many n = traced k program 0 n (core delays cap
 abbrev pub table : List Row
 table =
     -- 0: the example, cycle by cycle
-    record { gives = eight .seen; expected =
-      0 ∷ 1 ∷ 0 ∷ 0 ∷ 0 ∷ 0 ∷ 3 ∷ 0 ∷ 1 ∷ 2 ∷ 0 ∷ 0 ∷ 0 ∷ 3 ∷ 0 ∷ 0 ∷ 0 ∷ 0 ∷ 2 ∷ 0 ∷ 0 ∷ 0 ∷ 2 ∷ 0 ∷ 0 ∷ 0 ∷ 2 ∷ 0 ∷ 0 ∷ 0 ∷ 0 ∷ 1 ∷ [] }
+    record {
+      gives = eight .seen;
+      expected =
+          0 ∷ 1 ∷ 0 ∷ 0 ∷ 0 ∷ 0 ∷ 3 ∷ 0 ∷ 1 ∷ 2 ∷ 0 ∷ 0 ∷ 0 ∷ 3 ∷ 0 ∷ 0 ∷ 0 ∷ 0 ∷ 2 ∷ 0 ∷ 0 ∷ 0 ∷ 2 ∷ 0 ∷ 0 ∷ 0 ∷ 2 ∷ 0 ∷ 0 ∷ 0 ∷ 0 ∷ 1 ∷ [];
+    }
     -- 1: it stops with cause 1, counter 1, count 1, and R1 is 7
     ∷ record { gives = core-seen (eight .last); expected = 1 ∷ 1 ∷ 1 ∷ 7 ∷ [] }
     -- 2 to 4: divide 3, 1, 2; a field that divide does not use; no kind 12

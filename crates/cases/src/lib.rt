@@ -4,5 +4,4 @@ ghost use Rattle.cases.specs.Table.{Cases-hold};
 // No row of the table fails.
 pub fn cases_hold()
     ensures { λ _. ⌜ Cases-hold ⌝ }
-{
-}
+{}

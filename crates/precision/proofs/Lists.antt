@@ -77,9 +77,10 @@ module _ (k : Timing) (program : List ℕ) where
         → ((q .count ≡ m .pipe .count → wait-of (longest-of (m .delays)) (q .stages) (q .scheme .flight) < wait-of (longest-of (m .delays)) (m .pipe .stages) (m .pipe .scheme .flight)) × Within (longest-of (m .delays)) (q .stages))
         → Kept k program (followed program p m (goes-on m q)) vs (quiet z m (goes-on m q)) (goes-on m q)
     going r calm = record {
-        units = h .units;
-        fit = h .fit;
-        life = subst (λ b. Life k program (cond (b && not b) (value-or p (steps (fetched program) (q .count) p)) p) vs (cond (b && eqb (q .count) (m .pipe .count)) (z + 1) 0) (goes-on m q) b) (sym on) (r, calm .1, pace (eqb (q .count) (m .pipe .count)) refl) }
+      units = h .units;
+      fit = h .fit;
+      life = subst (λ b. Life k program (cond (b && not b) (value-or p (steps (fetched program) (q .count) p)) p) vs (cond (b && eqb (q .count) (m .pipe .count)) (z + 1) 0) (goes-on m q) b) (sym on) (r, calm .1, pace (eqb (q .count) (m .pipe .count)) refl);
+    }
       where
         pace : (b : Bool) → eqb (q .count) (m .pipe .count) ≡ b → cond b (z + 1) 0 + wait-of (longest-of (m .delays)) (q .stages) (q .scheme .flight) ≤ longest-of (m .delays)
         pace true e = let lt = calm .0 (eqb-true (q .count) (m .pipe .count) e) in let o = paced in omega arith
@@ -87,25 +88,27 @@ module _ (k : Timing) (program : List ℕ) where
 
     agrees : (c : Cause) (n : Machine) → n .pipe ≡ q → n .cause ≡ Some c → Ends (setting k (m .delays) program) p c q vs → Agrees program p vs n
     agrees c n e f x = record {
-        now = x .now;
-        ran = ap (λ (y : Pipe). steps (fetched program) (y .count) p) e ∙ x .ran;
-        registers = x .registers ∙ sym (ap (λ (y : Pipe). y .scheme .settled) e);
-        words = x .words;
-        counter = x .counter ∙ sym (ap (λ (y : Pipe). y .next) e);
-        fault = λ g h. x .fault g (let u = sym f ∙ h in cc) }
+      now = x .now;
+      ran = ap (λ (y : Pipe). steps (fetched program) (y .count) p) e ∙ x .ran;
+      registers = x .registers ∙ sym (ap (λ (y : Pipe). y .scheme .settled) e);
+      words = x .words;
+      counter = x .counter ∙ sym (ap (λ (y : Pipe). y .next) e);
+      fault = λ g h. x .fault g (let u = sym f ∙ h in cc);
+    }
 
     stopping : (c : Cause) (n : Machine) → n .pipe ≡ q → n .running ≡ false → n .delays ≡ m .delays → Ends (setting k (m .delays) program) p c q vs → Kept k program (followed program p m n) vs 0 n
     stopping c n e off d x =
         let idle : Idle (x .now) vs q = record { registers = x .registers; words = x .words; wide = x .wide; roomy = x .roomy; empty = x .empty; clear = x .clear } in
         let same : followed program p m n ≡ x .now =
-              ap (λ b. cond (b && not (n .running)) (value-or p (steps (fetched program) (n .pipe .count) p)) p) on
-              ∙ (ap (λ b. cond (not b) (value-or p (steps (fetched program) (n .pipe .count) p)) p) off
-              ∙ ap (value-or p) (ap (λ (y : Pipe). steps (fetched program) (y .count) p) e ∙ x .ran)) in
+        ap (λ b. cond (b && not (n .running)) (value-or p (steps (fetched program) (n .pipe .count) p)) p) on
+        ∙ (ap (λ b. cond (not b) (value-or p (steps (fetched program) (n .pipe .count) p)) p) off
+        ∙ ap (value-or p) (ap (λ (y : Pipe). steps (fetched program) (y .count) p) e ∙ x .ran)) in
         record {
           units = ap length d ∙ h .units;
           fit = ap delays-fit d ∙ h .fit;
           life = subst (Life k program (followed program p m n) vs 0 n) (sym off)
-            (subst (λ y. Idle y vs (n .pipe)) (sym same) (subst (Idle (x .now) vs) (sym e) idle), omega arith) }
+              (subst (λ y. Idle y vs (n .pipe)) (sym same) (subst (Idle (x .now) vs) (sym e) idle), omega arith);
+        }
 
     silent : {A : Type 0} → (m .running && not (m .running)) ≡ true → A
     silent y = let f = sym (ap (λ b. b && not b) on) ∙ y in let u : _≡_ {A = ℕ} 0 1 = cc in absurd (omega arith)
@@ -113,7 +116,7 @@ module _ (k : Timing) (program : List ℕ) where
     after-cycle : (e : Ending) → By-ending (Runs (setting k (m .delays) program) p q vs) (λ c. Ends (setting k (m .delays) program) p c q vs) e
         → By-ending ((q .count ≡ m .pipe .count → wait-of (longest-of (m .delays)) (q .stages) (q .scheme .flight) < wait-of (longest-of (m .delays)) (m .pipe .stages) (m .pipe .scheme .flight)) × Within (longest-of (m .delays)) (q .stages)) (λ _. Unit {0}) e
         → Kept k program (followed program p m (after-ending m q e)) vs (quiet z m (after-ending m q e)) (after-ending m q e)
-          × (reported m (after-ending m q e) ≡ true → Agrees program p vs (after-ending m q e))
+        × (reported m (after-ending m q e) ≡ true → Agrees program p vs (after-ending m q e))
     after-cycle (ending.Issued c) r calm = (going r calm, λ y. silent y)
     after-cycle (ending.Stored c) r calm = (going r calm, λ y. silent y)
     after-cycle (ending.Held c) r calm = (going r calm, λ y. silent y)
@@ -140,9 +143,9 @@ module _ (k : Timing) (program : List ℕ) where
           let ok = fits m (h .units) (h .fit) in
           let t = cycle (setting k (m .delays) program) (m .requested) (st .tag) (m .pipe) ws in
           subst (λ (y : Step). Kept k program (followed program p m (y .machine)) (y .words) (quiet z m (y .machine)) (y .machine) × (reported m (y .machine) ≡ true → Agrees program p (y .words) (y .machine))) (sym q)
-            (after-cycle p ws z m on h (t .pipe) (t .words) (t .ending)
-              (cycle-held (setting k (m .delays) program) (longest-of (m .delays)) (ok .0) (ok .1) p (m .requested) (st .tag) (m .pipe) ws (life .0) (st .free))
-              (cycle-calm (setting k (m .delays) program) (longest-of (m .delays)) (ok .0) (ok .1) p (m .requested) (st .tag) (m .pipe) ws (life .0) (life .1) (st .free)))
+          (after-cycle p ws z m on h (t .pipe) (t .words) (t .ending)
+          (cycle-held (setting k (m .delays) program) (longest-of (m .delays)) (ok .0) (ok .1) p (m .requested) (st .tag) (m .pipe) ws (life .0) (st .free))
+          (cycle-calm (setting k (m .delays) program) (longest-of (m .delays)) (ok .0) (ok .1) p (m .requested) (st .tag) (m .pipe) ws (life .0) (life .1) (st .free)))
 
   -- a declined step
   step-off : (p : Plain) (ws : List ℕ) (z : ℕ) (m : Machine) (lent words : List ℕ) (s : Step) (x : Refusal) → Kept k program p ws z m → Steps k m lent words s → s .answer ≡ Err x → Kept k program p ws z (s .machine)
@@ -171,17 +174,18 @@ module _ (k : Timing) (program : List ℕ) where
       by false off =
           let e : cut-leaves m ≡ m = ap (λ b. unless (cond b None (Some refusal.Stopped)) (cut-off m) m) off in
           subst (λ (n : Machine). Kept k program (followed program p m n) ws z n × (reported m n ≡ true → Agrees program p ws n)) (sym e)
-            (unmoved p ws z m h, λ y. let f = sym (still (m .running)) ∙ y in let u : _≡_ {A = ℕ} 0 1 = cc in absurd (omega arith))
+          (unmoved p ws z m h, λ y. let f = sym (still (m .running)) ∙ y in let u : _≡_ {A = ℕ} 0 1 = cc in absurd (omega arith))
       by true on =
           let e : cut-leaves m ≡ cut-off m = ap (λ b. unless (cond b None (Some refusal.Stopped)) (cut-off m) m) on in
           let life = subst (Life k program p ws z m) on (h .life) in
           let x = cut-held (setting k (m .delays) program) p (m .pipe) ws (counter-or (oldest-answer (m .pipe .scheme)) (m .pipe .next)) (life .0)
-                (λ c y. ap (λ o. counter-or o (m .pipe .next)) y) (λ y. ap (λ o. counter-or o (m .pipe .next)) y) in
+          (λ c y. ap (λ o. counter-or o (m .pipe .next)) y) (λ y. ap (λ o. counter-or o (m .pipe .next)) y) in
           let q = emptied (m .pipe) (counter-or (oldest-answer (m .pipe .scheme)) (m .pipe .next)) in
           let stop = stopping p ws z m on h q ws cause.Cut (cut-off m) refl refl refl x in
-          subst (λ (n : Machine). Kept k program (followed program p m n) ws z n × (reported m n ≡ true → Agrees program p ws n)) (sym e)
-            ( record { units = stop .units; fit = stop .fit; life = (stop .life .0, bounded p ws z m true life) }
-            , λ _. agrees p ws z m on h q ws cause.Cut (cut-off m) refl refl x )
+          subst (λ (n : Machine). Kept k program (followed program p m n) ws z n × (reported m n ≡ true → Agrees program p ws n)) (sym e) (
+            record { units = stop .units; fit = stop .fit; life = (stop .life .0, bounded p ws z m true life) },
+            λ _. agrees p ws z m on h q ws cause.Cut (cut-off m) refl refl x,
+          )
 
   request-on : (p : Plain) (ws : List ℕ) (z : ℕ) (m : Machine) → Kept k program p ws z m → Kept k program p ws z (request-leaves m)
   request-on p ws z m h = by (stopped-refusal m)
@@ -208,20 +212,21 @@ module _ (k : Timing) (program : List ℕ) where
           subst (λ o. Kept k program (unless o (with-register p r w) p) ws z (unless o (amended m r w) m)) (sym (ap (λ b. cond b (Some refusal.Running) (cond (leb r 15) None (Some refusal.Register))) on)) h
       by false off false e =
           subst (λ o. Kept k program (unless o (with-register p r w) p) ws z (unless o (amended m r w) m))
-            (sym (ap (λ b. cond b (Some refusal.Running) (cond (leb r 15) None (Some refusal.Register))) off ∙ ap (λ c. cond c None (Some refusal.Register)) e)) h
+          (sym (ap (λ b. cond b (Some refusal.Running) (cond (leb r 15) None (Some refusal.Register))) off ∙ ap (λ c. cond c None (Some refusal.Register)) e)) h
       by false off true e =
           let i = idle-from p ws z m off h in
           let pl = placed (m .pipe .scheme) r w (i .empty) (leb-true r 15 e) in
           let idle : Idle (with-register p r w) ws (amended m r w .pipe) = record {
-                registers = ap (λ xs. set xs r w) (i .registers) ∙ sym (ap (λ (y : Meaning). y .settled) pl);
-                words = i .words;
-                wide = length-set (p .registers) r w ∙ i .wide;
-                roomy = subst (λ (y : Meaning). 1 ≤ y .capacity) (sym pl) (i .roomy);
-                empty = ap (λ (y : Meaning). y .flight) pl ∙ i .empty;
-                clear = i .clear } in
+            registers = ap (λ xs. set xs r w) (i .registers) ∙ sym (ap (λ (y : Meaning). y .settled) pl);
+            words = i .words;
+            wide = length-set (p .registers) r w ∙ i .wide;
+            roomy = subst (λ (y : Meaning). 1 ≤ y .capacity) (sym pl) (i .roomy);
+            empty = ap (λ (y : Meaning). y .flight) pl ∙ i .empty;
+            clear = i .clear;
+          } in
           subst (λ o. Kept k program (unless o (with-register p r w) p) ws z (unless o (amended m r w) m))
-            (sym (ap (λ b. cond b (Some refusal.Running) (cond (leb r 15) None (Some refusal.Register))) off ∙ ap (λ c. cond c None (Some refusal.Register)) e))
-            (record { units = h .units; fit = h .fit; life = subst (Life k program (with-register p r w) ws z (amended m r w)) (sym off) (idle, bounded p ws z m (m .running) (h .life)) })
+          (sym (ap (λ b. cond b (Some refusal.Running) (cond (leb r 15) None (Some refusal.Register))) off ∙ ap (λ c. cond c None (Some refusal.Register)) e))
+          (record { units = h .units; fit = h .fit; life = subst (Life k program (with-register p r w) ws z (amended m r w)) (sym off) (idle, bounded p ws z m (m .running) (h .life)) })
 
   resume-on : (p : Plain) (ws : List ℕ) (z : ℕ) (m : Machine) (c : ℕ) → Kept k program p ws z m → Kept k program (unless (resume-refusal m c) (with-counter p c) p) ws (unless (resume-refusal m c) 0 z) (resume-leaves m c)
   resume-on p ws z m c h = by (m .running) refl (leb c 65535) refl
@@ -231,28 +236,30 @@ module _ (k : Timing) (program : List ℕ) where
           subst (λ o. Kept k program (unless o (with-counter p c) p) ws (unless o 0 z) (unless o (resumed m c) m)) (sym (ap (λ b. cond b (Some refusal.Running) (cond (leb c 65535) None (Some refusal.Counter))) on)) h
       by false off false e =
           subst (λ o. Kept k program (unless o (with-counter p c) p) ws (unless o 0 z) (unless o (resumed m c) m))
-            (sym (ap (λ b. cond b (Some refusal.Running) (cond (leb c 65535) None (Some refusal.Counter))) off ∙ ap (λ d. cond d None (Some refusal.Counter)) e)) h
+          (sym (ap (λ b. cond b (Some refusal.Running) (cond (leb c 65535) None (Some refusal.Counter))) off ∙ ap (λ d. cond d None (Some refusal.Counter)) e)) h
       by false off true e =
           let i = idle-from p ws z m off h in
           let same : record { registers = m .pipe .scheme .settled; words = ws; counter = c } ≡ with-counter p c =
-                ap (λ xs. record { registers = xs; words = ws; counter = c }) (sym (i .registers)) ∙ ap (λ xs. record { registers = p .registers; words = xs; counter = c }) (sym (i .words)) in
+          ap (λ xs. record { registers = xs; words = ws; counter = c }) (sym (i .registers)) ∙ ap (λ xs. record { registers = p .registers; words = xs; counter = c }) (sym (i .words)) in
           let runs = idle-runs (setting k (m .delays) program) (resumed m c .pipe) ws (i .empty) (i .clear) refl (sym (ap length (i .registers)) ∙ i .wide) (i .roomy) in
           subst (λ o. Kept k program (unless o (with-counter p c) p) ws (unless o 0 z) (unless o (resumed m c) m))
-            (sym (ap (λ b. cond b (Some refusal.Running) (cond (leb c 65535) None (Some refusal.Counter))) off ∙ ap (λ d. cond d None (Some refusal.Counter)) e))
-            (record {
-              units = h .units;
-              fit = h .fit;
-              life =
-                ( subst (λ y. Runs (setting k (m .delays) program) y (resumed m c .pipe) ws) same runs
-                , subst (Within (longest-of (m .delays))) (sym (i .clear)) (within-none (longest-of (m .delays)) 16)
-                , subst (λ es. 0 + wait-of (longest-of (m .delays)) (m .pipe .stages) es ≤ longest-of (m .delays)) (sym (i .empty)) (omega arith) ) })
+          (sym (ap (λ b. cond b (Some refusal.Running) (cond (leb c 65535) None (Some refusal.Counter))) off ∙ ap (λ d. cond d None (Some refusal.Counter)) e))
+          (record {
+            units = h .units;
+            fit = h .fit;
+            life = (
+              subst (λ y. Runs (setting k (m .delays) program) y (resumed m c .pipe) ws) same runs,
+              subst (Within (longest-of (m .delays))) (sym (i .clear)) (within-none (longest-of (m .delays)) 16),
+              subst (λ es. 0 + wait-of (longest-of (m .delays)) (m .pipe .stages) es ≤ longest-of (m .delays)) (sym (i .empty)) (omega arith),
+            );
+          })
 
   -- what load accepts
   load-on : (m : Machine) (ds : List ℕ) (c pl dl : ℕ) (ws : List ℕ) → length ds ≡ 4 → load-refusal m ds c pl dl ≡ None → Kept k program (at-zero ws) ws 0 (load-leaves m ds c pl dl)
   load-on m ds c pl dl ws u e =
       let f = accepts (m .running) (delays-fit ds) refl (one-to-sixteen c) refl e in
       subst (λ o. Kept k program (at-zero ws) ws 0 (unless o (loaded ds c pl dl) m)) (sym e)
-        (record { units = u; fit = f .0; life = (record { registers = refl; words = refl; wide = refl; roomy = f .1; empty = refl; clear = refl }, omega arith) })
+      (record { units = u; fit = f .0; life = (record { registers = refl; words = refl; wide = refl; roomy = f .1; empty = refl; clear = refl }, omega arith) })
     where
       accepts : (r a : Bool) → delays-fit ds ≡ a → (b : Bool) → one-to-sixteen c ≡ b
           → cond r (Some refusal.Running) (cond (not a) (Some refusal.Delay) (cond (not b) (Some refusal.Capacity) (cond (not (program-fits pl)) (Some refusal.Program) (cond (not (data-fits dl)) (Some refusal.Data) None)))) ≡ None
