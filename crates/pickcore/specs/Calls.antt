@@ -18,6 +18,7 @@ use Rattle.isa.specs.declared.refusal.Refusal.the-variants as refusal
 use Rattle.isa.specs.Numbers.{refusal-number}
 use Rattle.recovery.specs.declared.Timing.{Timing}
 use Rattle.recovery.specs.Meaning.{Meaning, has-tag, blank, place-leaves, look-answer, oldest-answer}
+use Rattle.images.specs.Image.{Snapshot, write-answer, write-leaves}
 use Rattle.pickcore.specs.declared.record.CycleRecord.{CycleRecord}
 use Rattle.pickcore.specs.declared.record.Report.{Report}
 use Rattle.pickcore.specs.declared.record.Ending.{Ending}
@@ -214,3 +215,24 @@ looked k m = map (λ r. word-or-0 (look-answer k m r)) (counting 0 16)
 -- all sixteen words with 0, or sixteen zeros with the refusal's number
 abbrev pub registers-answer : Timing → Machine → List ℕ × ℕ
 registers-answer k m = cond (m .running) (replicate 16 0, refusal-number refusal.Running) (looked k (m .pipe .scheme), 0)
+
+-- write_image
+
+-- the most that an image's count may be, which a core changed by calls alone never passes
+abbrev pub count-of-image : ℕ → ℕ
+count-of-image n = cond (leb n stretch) n stretch
+
+-- the state that an image of the core holds
+abbrev pub imaged : Timing → Machine → Snapshot
+imaged k m = record { registers = looked k (m .pipe .scheme); counter = m .pipe .next; cause = m .cause; count = count-of-image (m .pipe .count) }
+
+-- a core that runs has no image, and the buffer stays as it is
+abbrev pub image-answer : Machine → List ℕ → Result (Unit {0}) Refusal
+image-answer m before = cond (m .running) (Err refusal.Running) (write-answer before)
+
+abbrev pub image-leaves : Timing → Machine → List ℕ → List ℕ
+image-leaves k m before = cond (m .running) before (write-leaves (imaged k m) before)
+
+-- the state between two instructions: the settled registers, the counter, the cause and the count
+abbrev pub between : Machine → Snapshot
+between m = record { registers = m .pipe .scheme .settled; counter = m .pipe .next; cause = m .cause; count = m .pipe .count }

@@ -5,7 +5,8 @@ ghost use Prim.Native.Nat.{_+_, _<_, _≤_};
 ghost use lib.ListN.{length};
 ghost use Rattle.std.specs.Results.{isErr, isOk};
 ghost use Rattle.pickcore.specs.Limits.{one-to-sixteen, delays-fit};
-ghost use Rattle.pickcore.specs.Calls.{accepted, unloaded, load-refusal, load-leaves, resume-refusal, resume-leaves, step-refusal, stopped, Steps, amend-refusal, amend-leaves, stopped-refusal, request-leaves, cut-leaves, Ran, Runs, report-answer, registers-answer};
+ghost use Rattle.pickcore.specs.Calls.{accepted, unloaded, load-refusal, load-leaves, resume-refusal, resume-leaves, step-refusal, stopped, Steps, amend-refusal, amend-leaves, stopped-refusal, request-leaves, cut-leaves, Ran, Runs, report-answer, registers-answer, count-of-image, image-answer, image-leaves, between};
+ghost use Rattle.images.specs.Image.{write-leaves};
 ghost use Rattle.pickcore.specs.Core.{machine-of};
 ghost use Rattle.pickcore.specs.Sound.{Sound};
 use crate::pipeline::Pipeline;
@@ -14,6 +15,9 @@ use crate::record::Ending;
 use crate::record::Report;
 use crate::stages::Stages;
 use crate::state::Core;
+use images::layout::MOST_COUNT;
+use images::state::State;
+use images::write::write_image;
 use isa::fault::Cause;
 use isa::refusal::Refusal;
 use isa::unit::UNITS;
@@ -35,6 +39,17 @@ fn one_to_sixteen(n: u32) -> bool
     ensures { λ r. ⌜ r ≡ one-to-sixteen n ⌝ }
 {
     1 <= n && n <= 16
+}
+
+// The count that an image holds: the core's own, which never passes the most that an image may hold.
+fn image_count(count: u32) -> u32
+    ensures value { λ r. ⌜ r ≡ count-of-image count ⌝ }
+    ensures few { λ r. ⌜ r ≤ 1000000 ⌝ }
+{
+    if count > MOST_COUNT {
+        return MOST_COUNT;
+    }
+    count
 }
 
 impl<S: Recovery> Core<S> {
@@ -282,5 +297,24 @@ impl<S: Recovery> Core<S> {
             words[register as usize] = self.pipe.scheme.look(register).unwrap_or(0);
         }
         (words, 0)
+    }
+
+    // Writes the image of a stopped core to the front of a buffer; later words stay.
+    pub fn write_image(&self, buffer: &mut [u32]) -> Result<(), Refusal>
+        ensures answer { λ r. ⌜ r ≡ image-answer (machine-of meaning (now (self .entry))) (now (buffer .entry)) ⌝ }
+        ensures leaves { λ _. ⌜ now (buffer .exit) ≡ image-leaves timing (machine-of meaning (now (self .entry))) (now (buffer .entry)) ⌝ }
+        ensures settled { λ _. ⌜ (Sound (machine-of meaning (now (self .entry))) → now (self .entry) .running ≡ false → now (buffer .exit) ≡ write-leaves (between (machine-of meaning (now (self .entry)))) (now (buffer .entry))) ⌝ }
+    {
+        if self.running {
+            return Err(Refusal::Running);
+        }
+        let (registers, _) = self.registers();
+        let state = State {
+            registers,
+            counter: self.pipe.next,
+            cause: self.cause,
+            count: image_count(self.pipe.count),
+        };
+        write_image(&state, buffer)
     }
 }
