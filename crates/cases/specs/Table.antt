@@ -4,7 +4,7 @@ use mathlib.Core.Path.{_≡_}
 use mathlib.Core.Bool.{Bool, true, false, cond, _&&_}
 use mathlib.Core.List.{List, [], _∷_, _++_}
 use lib.Dec.{eqb}
-use lib.ListN.{getD}
+use lib.ListN.{getD, replicate}
 use Rattle.std.specs.declared.option.Option.{Option}
 use Rattle.std.specs.declared.option.Option.the-variants.{Some, None}
 use Rattle.std.specs.declared.result.Result.{Result}
@@ -19,7 +19,7 @@ use Rattle.recovery.specs.declared.Timing.{Timing}
 use Rattle.recovery.specs.declared.Timing.the-variants.{Early, Late}
 use Rattle.pickcore.specs.declared.record.CycleRecord.{CycleRecord}
 use Rattle.pickcore.specs.Record.{hold-or-0}
-use Rattle.pickcore.specs.Calls.{Machine, Step, loaded, resume-leaves, step-of, cut-leaves}
+use Rattle.pickcore.specs.Calls.{Machine, Step, loaded, resume-leaves, step-of, cut-leaves, image-leaves}
 
 -- two lists of numbers are the same
 abbrev pub same : List ℕ → List ℕ → Bool
@@ -98,6 +98,11 @@ eight = traced Early example 0 8 (core (2 ∷ (4 ∷ (5 ∷ (3 ∷ [])))) 4 4)
 abbrev pub seen-in : Timing → List ℕ → ℕ → List ℕ → ℕ → ℕ → List ℕ
 seen-in k delays capacity program many n = traced k program 0 n (core delays capacity many) .seen
 
+-- the words at these indices
+abbrev pub words-seen : List ℕ → List ℕ → List ℕ
+words-seen [] ws = []
+words-seen (i ∷ is) ws = getD ws i 0 ∷ words-seen is ws
+
 abbrev pub table : List Row
 table =
     -- 0: the example, cycle by cycle
@@ -132,6 +137,11 @@ table =
     ∷ record { gives = seen-in Early (2 ∷ (1 ∷ (1 ∷ (1 ∷ [])))) 1 (0x11000001 ∷ (0x12000002 ∷ [])) 2 2; expected = 0 ∷ 1 ∷ 0 ∷ 0 ∷ 0 ∷ 0 ∷ 6 ∷ 0 ∷ [] }
     -- 17: a cut after the example's first cycle
     ∷ record { gives = core-seen (cut-leaves (traced Early example 0 1 (core (2 ∷ (4 ∷ (5 ∷ (3 ∷ [])))) 4 4) .last)); expected = 8 ∷ 0 ∷ 0 ∷ 0 ∷ [] }
+    -- 18: the example's image has R1 in words 2 and 3, the counter in 32, the cause in 33 and the count in 34
+    ∷ record {
+      gives = words-seen (2 ∷ 3 ∷ 32 ∷ 33 ∷ 34 ∷ 35 ∷ []) (image-leaves Early (eight .last) (replicate 36 0));
+      expected = 0x11000007 ∷ 0x21000000 ∷ 0x30000001 ∷ 0x40000001 ∷ 0x50000001 ∷ 0xF0000024 ∷ [];
+    }
     ∷ []
 
 abbrev pub Cases-hold : Type 0
