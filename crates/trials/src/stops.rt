@@ -1,4 +1,4 @@
-// Requests, cuts and amends.
+// Requests, cuts, amends and images.
 use crate::bench::BLANK;
 use crate::bench::Setting;
 use crate::bench::started;
@@ -118,4 +118,31 @@ fn amends() -> Result<(), Fail> {
     mended::<BypassBuffer>()?;
     mended::<HistoryBuffer>()?;
     mended::<FutureFile>()
+}
+
+// A core has an image once it is stopped: the words that hold the example's R1, counter, cause and count, and the end
+// word. A refused call leaves the buffer, and an accepted one the word behind the image.
+fn imaged<S: Recovery + Drop>() -> Result<(), Fail> {
+    let mut core: Core<S> = started(SETTING, &EXAMPLE, &[])?;
+    let mut buffer = [9; 37];
+    check_eq(core.write_image(&mut buffer), Err(Refusal::Running))?;
+    check_eq(buffer, [9; 37])?;
+    let mut records = [BLANK; 10];
+    check_eq(core.run(&EXAMPLE, &mut [], &mut records), Ok(8))?;
+    let mut short = [9; 35];
+    check_eq(core.write_image(&mut short), Err(Refusal::Buffer))?;
+    check_eq(short, [9; 35])?;
+    check_eq(core.write_image(&mut buffer), Ok(()))?;
+    check_eq(
+        (buffer[2], buffer[32], buffer[33], buffer[36]),
+        (0x1100_0007, 0x3000_0001, 0x4000_0001, 9),
+    )
+}
+
+#[test]
+fn images() -> Result<(), Fail> {
+    imaged::<ReorderBuffer>()?;
+    imaged::<BypassBuffer>()?;
+    imaged::<HistoryBuffer>()?;
+    imaged::<FutureFile>()
 }
