@@ -1,9 +1,7 @@
 -- The table of worked cases. A row holds what the definitions give and what it should be, as numbers.
 use Prim.Native.Nat.{ℕ, zero, suc, _+_}
 use mathlib.Core.Path.{_≡_}
-use mathlib.Core.Bool.{Bool, true, false, cond, _&&_}
 use mathlib.Core.List.{List, [], _∷_, _++_}
-use lib.Dec.{eqb}
 use lib.ListN.{getD, replicate}
 use Rattle.std.specs.declared.option.Option.{Option}
 use Rattle.std.specs.declared.option.Option.the-variants.{Some, None}
@@ -21,21 +19,14 @@ use Rattle.pickcore.specs.declared.record.CycleRecord.{CycleRecord}
 use Rattle.pickcore.specs.Record.{hold-or-0}
 use Rattle.pickcore.specs.Calls.{Machine, Step, loaded, resume-leaves, step-of, cut-leaves, image-leaves}
 
--- two lists of numbers are the same
-abbrev pub same : List ℕ → List ℕ → Bool
-same [] [] = true
-same [] (y ∷ ys) = false
-same (x ∷ xs) [] = false
-same (x ∷ xs) (y ∷ ys) = eqb x y && same xs ys
-
 pub record Row : Type 0 where
   pub gives : List ℕ
   pub expected : List ℕ
 
--- the rows that fail, counted from i
-abbrev pub failing : ℕ → List Row → List ℕ
-failing i [] = []
-failing i (r ∷ rs) = cond (same (r .gives) (r .expected)) (failing (i + 1) rs) (i ∷ failing (i + 1) rs)
+-- every row gives what it should
+abbrev pub Each : List Row → Type 0
+Each [] = Unit {0}
+Each (r ∷ rs) = (r .gives ≡ r .expected) × Each rs
 
 -- What is seen of a word, of the plain machine's step, and of a core
 
@@ -145,4 +136,4 @@ table =
     ∷ []
 
 abbrev pub Cases-hold : Type 0
-Cases-hold = failing 0 table ≡ []
+Cases-hold = Each table
