@@ -1,5 +1,7 @@
 // Plays jobs made from fixed numbers on the core and on the second model, and prints what was compared and how much of
 // it differs.
+#![tactic(auto)]
+
 mod covered;
 mod findings;
 mod jobs;

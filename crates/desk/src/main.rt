@@ -1,4 +1,6 @@
 // Reads a script on standard input, makes its calls on a core, and prints their answers.
+#![tactic(auto)]
+
 use deskrun::desk::desk;
 use std::io;
 use std::io::Read;

@@ -1,4 +1,6 @@
 // A future file: beside a reorder buffer stands a second file with the newest word of each register.
+#![tactic(auto)]
+
 ghost use Rattle.std.specs.Prelude.{◌≡◌, ℕ, length};
 ghost use Rattle.recovery.specs.declared.Timing.{Timing};
 ghost use Rattle.recovery.specs.declared.Timing.TheVariants.{Early};
@@ -23,11 +25,11 @@ pub struct FutureFile {
 }
 
 // Writes the word of a result, if it has one, to the destination of the entry that takes it.
-fn write_result(file: &mut [u32; 16], taker: Option<Slot>, res: Result<u32, Fault>)
-    ensures { file.new ≡ written file.old taker «result» }
+fn write_result(file: &mut [u32; 16], taker: Option<Slot>, outcome: Result<u32, Fault>)
+    ensures { file.new ≡ written file.old taker outcome }
 {
     if let Some(slot) = taker {
-        if let Ok(word) = res {
+        if let Ok(word) = outcome {
             put_word(file, slot.destination, word);
         }
     }
@@ -79,10 +81,10 @@ impl Recovery for FutureFile {
         self.buffer.admit(counter, destination)
     }
 
-    fn deliver(&mut self, tag: u8, res: Result<u32, Fault>) -> bool {
+    fn deliver(&mut self, tag: u8, outcome: Result<u32, Fault>) -> bool {
         let taker = self.buffer.taker(tag);
-        write_result(&mut self.newest, taker, res);
-        self.buffer.deliver(tag, res)
+        write_result(&mut self.newest, taker, outcome);
+        self.buffer.deliver(tag, outcome)
     }
 
     fn look(&self, register: u8) -> Option<u32> {

@@ -1,5 +1,7 @@
 // A history buffer: a recovery scheme that writes each result into its one file at once, and backs out by putting the
 // old words back, from the youngest record to the oldest.
+#![tactic(auto)]
+
 ghost use Rattle.std.specs.Prelude.{◌≡◌, ◌<◌, ◌≤◌, take};
 ghost use Rattle.recovery.specs.declared.Timing.TheVariants.{Early};
 ghost use Rattle.recovery.specs.Meaning.{awaited_destination, blank};
@@ -71,11 +73,11 @@ fn new_record(file: &[u32; 16], counter: u16, destination: Option<u8>) -> Histor
 }
 
 // Writes a result into the file, and answers the progress that it makes. A fault writes nothing.
-fn store(file: &mut [u32; 16], destination: Option<u8>, res: Result<u32, Fault>) -> Progress
-    ensures answer { result ≡ progress_by «result» }
-    ensures leaves { file.new ≡ file_after file.old destination «result» }
+fn store(file: &mut [u32; 16], destination: Option<u8>, outcome: Result<u32, Fault>) -> Progress
+    ensures answer { result ≡ progress_by outcome }
+    ensures leaves { file.new ≡ file_after file.old destination outcome }
 {
-    match res {
+    match outcome {
         Ok(word) => {
             put_word(file, destination, word);
             Progress::Finished
@@ -210,7 +212,7 @@ impl Recovery for HistoryBuffer {
         Admitted::Tagged(tag)
     }
 
-    fn deliver(&mut self, tag: u8, res: Result<u32, Fault>) -> bool {
+    fn deliver(&mut self, tag: u8, outcome: Result<u32, Fault>) -> bool {
         let i = tag.wrapping_sub(self.first) as usize;
         if i >= self.count {
             return false;
@@ -218,7 +220,7 @@ impl Recovery for HistoryBuffer {
         let found = self.records[i];
         match found.progress {
             Progress::Waiting => {
-                let progress = store(&mut self.file, found.destination, res);
+                let progress = store(&mut self.file, found.destination, outcome);
                 self.records[i] = HistoryRecord { progress, ..found };
                 true
             }

@@ -5,6 +5,8 @@
 // each of the kind 3 with the counter, of the kind 4 with the number of the cause, of the kind 5 with the count, and the
 // end word. A half and the counter are below 2^16, the cause at most 8 and the count at most 1,000,000, so that every
 // bit above them is zero.
+#![tactic(auto)]
+
 ghost use Rattle.images.specs.Laws.{ReadThenWrite, WriteThenRead, FirstBadWord};
 
 pub mod layout;

@@ -1,4 +1,6 @@
 // Reads a job on standard input, runs it on the core, and prints what each cycle did and how the run ended.
+#![tactic(auto)]
+
 use jobrun::pick::pickrun;
 use std::io;
 use std::io::Read;

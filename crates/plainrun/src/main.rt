@@ -1,4 +1,6 @@
 // Reads a job on standard input, runs it on the plain machine, and prints where that stands.
+#![tactic(auto)]
+
 use jobrun::plain::plainrun;
 use std::io;
 use std::io::Read;

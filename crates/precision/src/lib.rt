@@ -1,4 +1,6 @@
 // One cycle of the core, beside the plain machine that takes one instruction at a time.
+#![tactic(auto)]
+
 ghost use Rattle.precision.specs.Results.{SettingsAreFit, StartsBeside, CycleIsPrecise, CutIsPrecise, StartsWithin, WaitsAreShort};
 ghost use Rattle.precision.specs.Lists.{StepsAgree, CutsAgree, NeverStandsStill, RunsAreSteps};
 ghost use Rattle.precision.specs.Precise.{LivesArePrecise, StoppedCoresAgree};

@@ -1,4 +1,6 @@
 // The lines that the desk and the cradle print.
+#![tactic(auto)]
+
 pub mod answers;
 pub mod calls;
 pub mod cradle;

@@ -1,5 +1,7 @@
 // A recovery scheme, known to the core by its meaning alone: how results that come in any order are settled in the
 // order of the program, and how what is in flight is backed out.
+#![tactic(auto)]
+
 ghost use Rattle.std.specs.Prelude.{◌≡◌, ℕ, ◌≤◌, length};
 ghost use Rattle.recovery.specs.declared.Timing.{Timing};
 ghost use Rattle.recovery.specs.Meaning.{Meaning, fresh, start_answer, start_leaves, place_answer, place_leaves, Admits, deliver_answer, deliver_leaves, look_answer, oldest_answer, retire_answer, retire_leaves, backed_out};
@@ -72,9 +74,9 @@ pub trait Recovery: Sized {
         ensures { Admits (meaning self.old) counter destination result (meaning self.new) };
 
     // Turns the pending entry of a tag done or faulted; without one it answers no.
-    fn deliver(&mut self, tag: u8, res: Result<u32, Fault>) -> bool
+    fn deliver(&mut self, tag: u8, outcome: Result<u32, Fault>) -> bool
         ensures answer { result ≡ deliver_answer (meaning self.old) tag }
-        ensures leaves { meaning self.new ≡ deliver_leaves (meaning self.old) tag «result» };
+        ensures leaves { meaning self.new ≡ deliver_leaves (meaning self.old) tag outcome };
 
     // The newest word of a source; none where it is awaited.
     fn look(&self, register: u8) -> Option<u32>

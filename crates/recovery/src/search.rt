@@ -12,7 +12,7 @@ pub trait Naming<K> {
 
 // The index of the youngest record that names the key, where the oldest comes first.
 pub fn youngest<K: Copy, R: Naming<K>>(records: &[R], key: K) -> Option<usize>
-    ensures { result ≡ last_index (λ x. names x key) records.now }
+    ensures { result ≡ last_index (λ x. R.names x key) records.now }
 {
     let mut i = records.len();
     while i > 0 {

@@ -37,10 +37,10 @@ pub fn status_at_first(destination: Option<u8>) -> Status
 }
 
 // The status that a result gives.
-pub fn status_by(res: Result<u32, Fault>) -> Status
-    ensures { result ≡ ended «result» }
+pub fn status_by(outcome: Result<u32, Fault>) -> Status
+    ensures { result ≡ ended outcome }
 {
-    match res {
+    match outcome {
         Ok(word) => Status::Done(word),
         Err(fault) => Status::Faulted(fault),
     }

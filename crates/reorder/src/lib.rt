@@ -1,4 +1,6 @@
 // Two recovery schemes over one reorder buffer: they differ in when a source may be read.
+#![tactic(auto)]
+
 ghost use Rattle.recovery.specs.declared.Timing.{Timing};
 ghost use Rattle.recovery.specs.declared.Timing.TheVariants.{Early, Late};
 ghost use Rattle.reorder.specs.Mean.{mean};
@@ -60,8 +62,8 @@ impl Recovery for ReorderBuffer {
         self.buffer.admit(counter, destination)
     }
 
-    fn deliver(&mut self, tag: u8, res: Result<u32, Fault>) -> bool {
-        self.buffer.deliver(tag, res)
+    fn deliver(&mut self, tag: u8, outcome: Result<u32, Fault>) -> bool {
+        self.buffer.deliver(tag, outcome)
     }
 
     fn look(&self, register: u8) -> Option<u32> {
@@ -118,8 +120,8 @@ impl Recovery for BypassBuffer {
         self.buffer.admit(counter, destination)
     }
 
-    fn deliver(&mut self, tag: u8, res: Result<u32, Fault>) -> bool {
-        self.buffer.deliver(tag, res)
+    fn deliver(&mut self, tag: u8, outcome: Result<u32, Fault>) -> bool {
+        self.buffer.deliver(tag, outcome)
     }
 
     fn look(&self, register: u8) -> Option<u32> {

@@ -1,4 +1,6 @@
 // The text of a desk script and of a cradle job: from bytes to values, and from answers to lines.
+#![tactic(auto)]
+
 pub mod calls;
 pub mod cradle;
 pub mod desk;

@@ -1,5 +1,6 @@
 //! A processor core as a calendar: an instruction in flight knows its result from the cycle in which it issued, and the
 //! number of the cycle from which on that result counts.
+#![tactic(auto)]
 
 mod calls;
 mod flight;

@@ -1,5 +1,7 @@
 // Trials on examples: instruction words, the plain machine, the core over each of the four recovery schemes, and what
 // the programs print.
+#![tactic(auto)]
+
 #[cfg(test)]
 mod arithmetic;
 #[cfg(test)]

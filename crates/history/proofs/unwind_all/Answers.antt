@@ -10,7 +10,7 @@ loop-i-preserved c =
     let up : c.loop-i.i - 1 + 1 ≡ c.loop-i.i = omega arith in
     let e = take_more c.args.records.now (c.loop-i.i - 1) unused lt in (
       omega arith,
-      ap (unwind (take (c.loop-i.i - 1) c.args.records.now)) c.put-word.ensures
+      ap (unwind (take (c.loop-i.i - 1) c.args.records.now)) c.put_word.ensures
           ∙ (sym (unwind_push (get_or c.args.records.now (c.loop-i.i - 1) unused) (take (c.loop-i.i - 1) c.args.records.now) c.loop-i.file)
           ∙ (sym (ap (λ xs. unwind xs c.loop-i.file) (ap (λ n. take n c.args.records.now) (sym up) ∙ e))
           ∙ c.loop-i.invariant.1)),

@@ -161,13 +161,13 @@ impl Buffer {
     }
 
     // Turns the pending entry of a tag done or faulted; without one it answers no.
-    pub fn deliver(&mut self, tag: u8, res: Result<u32, Fault>) -> bool
+    pub fn deliver(&mut self, tag: u8, outcome: Result<u32, Fault>) -> bool
         ensures answer { result ≡ deliver_answer (mean self.old) tag }
-        ensures leaves { mean self.new ≡ deliver_leaves (mean self.old) tag «result» }
+        ensures leaves { mean self.new ≡ deliver_leaves (mean self.old) tag outcome }
     {
         match self.taker_at(tag) {
             Some(i) => {
-                self.slots[i].status = status_by(res);
+                self.slots[i].status = status_by(outcome);
                 true
             }
             None => false,

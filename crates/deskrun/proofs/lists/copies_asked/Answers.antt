@@ -9,7 +9,7 @@ loop-call-preserved c =
     let s = sum_by_more copies_in_call c.args.calls.now c.loop-call.call-index c.call-item.result c.loop-call-test.true in
     let e = ap copies_in_call c.call-item.is in
     let i = c.loop-call.invariant.0 in
-    let v = c.copies-in-call-all.ensures.value in
+    let v = c.copies_in_call-all.ensures.value in
     (omega arith, omega arith)
 
 pub returns : goal.returns

@@ -10,7 +10,7 @@ loop-call-preserved c =
     let e = ap cycles_in_call c.call-item.is in
     let i = c.loop-call.invariant in
     let v = c.cycles_in_call.ensures in
-    let a = c.in-ok-all.ensures.1 in
+    let a = c.in_ok-all.ensures.1 in
     a ∙ omega arith
 
 pub returns : goal.returns

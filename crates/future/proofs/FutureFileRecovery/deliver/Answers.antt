@@ -8,8 +8,8 @@ pub invariant-of-self : goal.invariant-of-self
 invariant-of-self c = (
   search rules,
   (
-    follows_deliver c.args.self.now.buffer c.args.self.now.newest c.write-result.new.file (mean c.deliver.new.self) c.args.tag c.args.res c.ranges.tag.fits
-        (c.write-result.ensures ∙ ap (λ o. written c.args.self.now.newest o c.args.res) c.taker-taker.ensures) c.deliver.ensures.leaves c.args.self.now.follows,
+    follows_deliver c.args.self.now.buffer c.args.self.now.newest c.write_result.new.file (mean c.deliver.new.self) c.args.tag c.args.outcome c.ranges.tag.fits
+        (c.write_result.ensures ∙ ap (λ o. written c.args.self.now.newest o c.args.outcome) c.taker-taker.ensures) c.deliver.ensures.leaves c.args.self.now.follows,
     tt,
   ),
 )

@@ -5,7 +5,7 @@ use Rattle.history.proofs.HistoryBufferRecovery.back_out.Goals as goal
 
 pub invariant-of-self : goal.invariant-of-self
 invariant-of-self c = (
-  (ap length c.unwind-all.ensures ∙ (length_unwind (in_use c.args.self.now) c.args.self.now.file ∙ c.args.self.now.sizes.0), c.args.self.now.sizes.1),
+  (ap length c.unwind_all.ensures ∙ (length_unwind (in_use c.args.self.now) c.args.self.now.file ∙ c.args.self.now.sizes.0), c.args.self.now.sizes.1),
   (
     c.args.self.now.limits,
     (

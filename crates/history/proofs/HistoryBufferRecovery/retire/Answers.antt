@@ -17,5 +17,5 @@ pub returns-in-Finished : goal.returns-in-Finished
 returns-in-Finished c =
     record {
       answer = (retire_as c.args.self.now Finished c.if-self-eq0.false c.in-Finished.is).0;
-      leaves = c.let-oldest-go.ensures ∙ retires c.args.self.now c.if-self-eq0.false c.in-Finished.is;
+      leaves = c.let_oldest_go.ensures ∙ retires c.args.self.now c.if-self-eq0.false c.in-Finished.is;
     }

@@ -2,11 +2,11 @@ use Rattle.std.proofs.Common.{◌∙◌, arith, ltb-false, ltb-true}
 use Rattle.images.proofs.Fronts.{next_read, none_left}
 use Rattle.images.proofs.read.+read_registers.Goals as goal
 
-pub returns-in-default : goal.returns-in-default
-returns-in-default t c =
+pub returns-in_default : goal.returns-in_default
+returns-in_default t c =
     none_left c.args.words.now c.args.registers.now c.args.register (omega (arith, ltb-true, ltb-false)) c.requires.1 c.requires.0
 
-pub returns-in-ok-registers : goal.returns-in-ok-registers
-returns-in-ok-registers t c =
-    c.read-registers.ensures
-    ∙ next_read c.args.words.now c.args.registers.now c.args.register c.in-ok-registers.field-0 (omega (arith, ltb-false)) (omega (arith, ltb-false)) c.in-ok-registers.ensures
+pub returns-in_ok-registers : goal.returns-in_ok-registers
+returns-in_ok-registers t c =
+    c.read_registers.ensures
+    ∙ next_read c.args.words.now c.args.registers.now c.args.register c.in_ok-registers.field-0 (omega (arith, ltb-false)) (omega (arith, ltb-false)) c.in_ok-registers.ensures

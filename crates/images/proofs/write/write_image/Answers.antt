@@ -9,7 +9,7 @@ pub returns : goal.returns
 returns c =
     record {
       answer = search rules;
-      leaves = written (snapshot_of c.args.state.now) c.args.buffer.now c.write-registers.new.buffer c.word-of.result c.word-of-2.result c.word-of-3.result
-          c.write-registers.ensures.words (omega arith) (omega arith) c.word-of.ensures (c.word-of-2.ensures ∙ ap (word_of 4 0) c.cause_number.ensures) c.word-of-3.ensures;
-      reads = λ _. write_then_read (snapshot_of c.args.state.now) c.args.state.now.sixteen c.write-registers.ensures.fit (search rules) c.args.state.now.counted;
+      leaves = written (snapshot_of c.args.state.now) c.args.buffer.now c.write_registers.new.buffer c.word_of.result c.word_of-2.result c.word_of-3.result
+          c.write_registers.ensures.words (omega arith) (omega arith) c.word_of.ensures (c.word_of-2.ensures ∙ ap (word_of 4 0) c.cause_number.ensures) c.word_of-3.ensures;
+      reads = λ _. write_then_read (snapshot_of c.args.state.now) c.args.state.now.sixteen c.write_registers.ensures.fit (search rules) c.args.state.now.counted;
     }

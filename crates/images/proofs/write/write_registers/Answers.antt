@@ -10,9 +10,9 @@ use Rattle.images.proofs.write.write_registers.Goals as goal
 
 pub loop-register-preserved : goal.loop-register-preserved
 loop-register-preserved c = (
-  next_register c.args.registers.now c.args.buffer.now c.loop-register.buffer c.loop-register.register c.word-of.result c.word-of-in-loop-register.result
-      c.loop-register.invariant.0 (omega arith) (omega arith) (c.word-of.ensures ∙ ap (word_of 1 c.loop-register.register) (and_mask (get_or c.args.registers.now c.loop-register.register 0) 16)) c.word-of-in-loop-register.ensures,
-  All-more (λ x. x < 2 ^ 32) c.args.registers.now c.loop-register.register 0 c.loop-register-test.true c.loop-register.invariant.1 (omega (arith, c.type-inv.registers c.loop-register.register)),
+  next_register c.args.registers.now c.args.buffer.now c.loop-register.buffer c.loop-register.register c.word_of.result c.word_of-in-loop-register.result
+      c.loop-register.invariant.0 (omega arith) (omega arith) (c.word_of.ensures ∙ ap (word_of 1 c.loop-register.register) (and_mask (get_or c.args.registers.now c.loop-register.register 0) 16)) c.word_of-in-loop-register.ensures,
+  All-more (λ x. x < 2 ^ 32) c.args.registers.now c.loop-register.register 0 c.loop-register-test.true c.loop-register.invariant.1 (omega (arith, c.type_inv.registers c.loop-register.register)),
 )
 
 pub returns : goal.returns

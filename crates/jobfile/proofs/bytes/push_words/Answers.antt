@@ -5,9 +5,9 @@ use Rattle.jobfile.proofs.bytes.push_words.Goals as goal
 
 pub loop-word-preserved : goal.loop-word-preserved
 loop-word-preserved c =
-    let e : vec_items c.extend-from-slice.new.self ≡ vec_items c.loop-word.bytes ++ bytes_of (get_or c.args.words.now c.loop-word.word-index 0) =
-    c.in-ok-extend-from-slice.ensures.items ∙ ap (λ x. vec_items c.loop-word.bytes ++ x) c.to-le-bytes.ensures in
-    push_more c.args.words.now (vec_items c.loop-word.bytes) (vec_items c.extend-from-slice.new.self) _ c.loop-word.word-index c.loop-word-test.true e c.loop-word.invariant
+    let e : vec_items c.extend_from_slice.new.self ≡ vec_items c.loop-word.bytes ++ bytes_of (get_or c.args.words.now c.loop-word.word-index 0) =
+    c.in_ok-extend_from_slice.ensures.items ∙ ap (λ x. vec_items c.loop-word.bytes ++ x) c.to_le_bytes.ensures in
+    push_more c.args.words.now (vec_items c.loop-word.bytes) (vec_items c.extend_from_slice.new.self) _ c.loop-word.word-index c.loop-word-test.true e c.loop-word.invariant
 
 pub returns : goal.returns
 returns c = λ _. push_all c.args.words.now (vec_items c.loop-word.bytes) _ c.loop-word.word-index c.loop-word-test.false c.loop-word.invariant

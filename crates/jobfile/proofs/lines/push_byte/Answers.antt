@@ -6,5 +6,5 @@ use Rattle.jobfile.proofs.lines.push_byte.Goals as goal
 pub returns : goal.returns
 returns c = λ _.
     push_then (string_bytes c.args.text.now) (string_bytes c.push.new.self) (string_bytes c.push-2.new.self) (hex_digit (c.args.byte / 16) ∷ []) (hex_digit (c.args.byte % 16) ∷ [])
-    (c.in-ok-push.ensures.bytes ∙ (ap (λ x. string_bytes c.args.text.now ++ x) (c.push.ensures.ascii c.hex_digit.ensures.ascii ∙ ap (λ n. n ∷ []) c.hex_digit.ensures.value)))
-    (c.in-ok-push-2.ensures.bytes ∙ (ap (λ x. string_bytes c.push.new.self ++ x) (c.push-2.ensures.ascii c.hex-digit-2.ensures.ascii ∙ ap (λ n. n ∷ []) c.hex-digit-2.ensures.value)))
+    (c.in_ok-push.ensures.bytes ∙ (ap (λ x. string_bytes c.args.text.now ++ x) (c.push.ensures.ascii c.hex_digit.ensures.ascii ∙ ap (λ n. n ∷ []) c.hex_digit.ensures.value)))
+    (c.in_ok-push-2.ensures.bytes ∙ (ap (λ x. string_bytes c.push.new.self ++ x) (c.push-2.ensures.ascii c.hex_digit-2.ensures.ascii ∙ ap (λ n. n ∷ []) c.hex_digit-2.ensures.value)))

@@ -5,4 +5,4 @@ use Rattle.jobfile.proofs.lines.stop_line.Goals as goal
 pub returns : goal.returns
 returns c =
     made_as c.format.result _ _ c.format.ensures.ok
-    (ap (λ n. codes "stop " ++ (decimal n ++ (codes " " ++ (decimal c.args.report.counter ++ (codes " " ++ (decimal c.args.report.count ++ codes "\n")))))) c.cause-number-cause.ensures)
+    (ap (λ n. codes "stop " ++ (decimal n ++ (codes " " ++ (decimal c.args.report.counter ++ (codes " " ++ (decimal c.args.report.count ++ codes "\n")))))) c.cause_number-cause.ensures)

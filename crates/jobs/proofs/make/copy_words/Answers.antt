@@ -14,9 +14,9 @@ returns c =
     let l : length (take many ws) ≡ many = length-take-le many ws (omega arith) in
     let k : (from + many) - from ≡ length (take many ws) = omega arith in
     let none : many - 0 ≡ many = omega arith in
-    let copied : c.copy-from-slice.new.self ≡ take many ws = c.copy-from-slice.ensures.after ∙ ap (λ n. take n ws) none in
+    let copied : c.copy_from_slice.new.self ≡ take many ws = c.copy_from_slice.ensures.after ∙ ap (λ n. take n ws) none in
     record {
       answer = sym l ∙ ap length front;
-      filled = subst (λ ys. Filled words from ys (take from words ++ (c.copy-from-slice.new.self ++ drop ((from + many) - from) (drop from words)))) front
+      filled = subst (λ ys. Filled words from ys (take from words ++ (c.copy_from_slice.new.self ++ drop ((from + many) - from) (drop from words)))) front
           (ap (λ ys. take from words ++ (ys ++ drop ((from + many) - from) (drop from words))) copied ∙ filled_all words (take many ws) from ((from + many) - from) k);
     }

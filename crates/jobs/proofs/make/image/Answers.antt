@@ -15,6 +15,6 @@ pub returns : goal.returns
 returns g c =
     let m = machine_of g.S.Recovery.meaning c.args.core.now in
     record {
-      value = ap Ok c.write-image.ensures.leaves ∙ into_zeros m.running (imaged g.S.Recovery.timing m) tt c.in-ok-write-image.ensures.answer;
-      reads = c.in-ok-write-image.ensures.reads;
+      value = ap Ok c.write_image.ensures.leaves ∙ into_zeros m.running (imaged g.S.Recovery.timing m) tt c.in_ok-write_image.ensures.answer;
+      reads = c.in_ok-write_image.ensures.reads;
     }

@@ -60,15 +60,15 @@ pub returns-in-TakeUpImage : goal.returns-in-TakeUpImage
 returns-in-TakeUpImage g c =
     let m = machine_of g.S.Recovery.meaning c.args.core.now in
     record {
-      made = simply g.S.Recovery.timing c.args.program.now (words_known c.args.last.now) c.args.records.now c.args.used c.args.copies.now c.args.copied m c.args.data.now c.args.call.now (call.TakeUpImage) (answer.Done c.take-up-last.result) (answer.Done (accepted (take_up_refusal m (words_known c.args.last.now)))) (take_up_deed m (words_known c.args.last.now)) (machine_of g.S.Recovery.meaning c.take-up-last.new.core) (take_up_leaves m (words_known c.args.last.now)) c.in-TakeUpImage.is (ap answer.Done c.take-up-last.ensures.answer) c.take-up-last.ensures.leaves refl;
-      sound = c.take-up-last.ensures.sound;
+      made = simply g.S.Recovery.timing c.args.program.now (words_known c.args.last.now) c.args.records.now c.args.used c.args.copies.now c.args.copied m c.args.data.now c.args.call.now (call.TakeUpImage) (answer.Done c.take_up_last.result) (answer.Done (accepted (take_up_refusal m (words_known c.args.last.now)))) (take_up_deed m (words_known c.args.last.now)) (machine_of g.S.Recovery.meaning c.take_up_last.new.core) (take_up_leaves m (words_known c.args.last.now)) c.in-TakeUpImage.is (ap answer.Done c.take_up_last.ensures.answer) c.take_up_last.ensures.leaves refl;
+      sound = c.take_up_last.ensures.sound;
     }
 
 pub returns-in-TakeUp : goal.returns-in-TakeUp
 returns-in-TakeUp g c =
     let m = machine_of g.S.Recovery.meaning c.args.core.now in
     record {
-      made = simply g.S.Recovery.timing c.args.program.now (words_known c.args.last.now) c.args.records.now c.args.used c.args.copies.now c.args.copied m c.args.data.now c.args.call.now (call.TakeUp c.in-TakeUp.image) (answer.Done c.take_up.result) (answer.Done (accepted (take_up_refusal m (vec_items c.in-TakeUp.image)))) (take_up_deed m (vec_items c.in-TakeUp.image)) (machine_of g.S.Recovery.meaning c.take_up.new.self) (take_up_leaves m (vec_items c.in-TakeUp.image)) c.in-TakeUp.is (ap answer.Done (c.take_up.ensures.answer ∙ ap (λ ws. accepted (take_up_refusal m ws)) c.as-slice.ensures.value)) (c.take_up.ensures.leaves ∙ ap (take_up_leaves m) c.as-slice.ensures.value) refl;
+      made = simply g.S.Recovery.timing c.args.program.now (words_known c.args.last.now) c.args.records.now c.args.used c.args.copies.now c.args.copied m c.args.data.now c.args.call.now (call.TakeUp c.in-TakeUp.image) (answer.Done c.take_up.result) (answer.Done (accepted (take_up_refusal m (vec_items c.in-TakeUp.image)))) (take_up_deed m (vec_items c.in-TakeUp.image)) (machine_of g.S.Recovery.meaning c.take_up.new.self) (take_up_leaves m (vec_items c.in-TakeUp.image)) c.in-TakeUp.is (ap answer.Done (c.take_up.ensures.answer ∙ ap (λ ws. accepted (take_up_refusal m ws)) c.as_slice.ensures.value)) (c.take_up.ensures.leaves ∙ ap (take_up_leaves m) c.as_slice.ensures.value) refl;
       sound = c.take_up.ensures.sound;
     }
 
@@ -100,6 +100,6 @@ pub returns-in-Data : goal.returns-in-Data
 returns-in-Data g c =
     let m = machine_of g.S.Recovery.meaning c.args.core.now in
     record {
-      made = by_copy g.S.Recovery.timing c.args.program.now (words_known c.args.last.now) c.args.records.now c.args.used c.args.copies.now c.args.copied m c.args.data.now c.args.call.now c.copy-words.result c.copy-words.new.words c.in-Data.is c.copy-words.ensures.answer c.copy-words.ensures.filled;
+      made = by_copy g.S.Recovery.timing c.args.program.now (words_known c.args.last.now) c.args.records.now c.args.used c.args.copies.now c.args.copied m c.args.data.now c.args.call.now c.copy_words.result c.copy_words.new.words c.in-Data.is c.copy_words.ensures.answer c.copy_words.ensures.filled;
       sound = λ h. h;
     }

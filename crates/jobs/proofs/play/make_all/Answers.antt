@@ -40,15 +40,15 @@ pub loop-i-preserved : goal.loop-i-preserved
 loop-i-preserved g c =
     let n = machine_of g.S.Recovery.meaning c.loop-i.core in
     let o = machine_of g.S.Recovery.meaning c.make-answer.new.core in
-    let ran : c.is-err-ran.result ≡ c.loop-i.core.running = c.is-err-ran.ensures.value ∙ asked_running n c.report.result c.report.ensures in
-    let made : c.report-made.result ≡ counted c.loop-i.core.running (report_answer o) =
-    c.report-made.ensures.value ∙ (ap (λ b. counted b c.report-in-loop-i.result) ran ∙ ap (counted c.loop-i.core.running) c.report-in-loop-i.ensures) in
-    let few : count_of (counted c.loop-i.core.running (report_answer o)) ≤ 2 ^ 32 = subst (λ x. count_of x ≤ 2 ^ 32) made c.report-made.ensures.few in
+    let ran : c.is_err-ran.result ≡ c.loop-i.core.running = c.is_err-ran.ensures.value ∙ asked_running n c.report.result c.report.ensures in
+    let made : c.report_made.result ≡ counted c.loop-i.core.running (report_answer o) =
+    c.report_made.ensures.value ∙ (ap (λ b. counted b c.report-in-loop-i.result) ran ∙ ap (counted c.loop-i.core.running) c.report-in-loop-i.ensures) in
+    let few : count_of (counted c.loop-i.core.running (report_answer o)) ≤ 2 ^ 32 = subst (λ x. count_of x ≤ 2 ^ 32) made c.report_made.ensures.few in
     let on = going_more g.S.Recovery.timing c.args.program.now c.args.calls.now c.args.answers.now c.args.records.now c.args.copies.now (machine_of g.S.Recovery.meaning c.args.core.now) c.args.data.now c.loop-i.i c.loop-i.totals c.loop-i.answers c.loop-i.records c.loop-i.copies (words_known c.loop-i.last) (machine_of g.S.Recovery.meaning c.loop-i.core) c.loop-i.data c.loop-i.invariant c.loop-i.auto.records c.loop-i.auto.copies c.index-calls-i.result c.make-answer.result c.make-answer.new.records c.make-answer.new.copies (machine_of g.S.Recovery.meaning c.make-answer.new.core) c.make-answer.new.data c.loop-i-test.true (omega arith) (one_more c.args.calls.now c.loop-i.i c.index-calls-i.result c.loop-i-test.true c.index-calls-i.is) c.make-answer.ensures.made c.make-answer.ensures.sound few c.note.ensures.short in
-    subst (λ (t : Totals). Going g.S.Recovery.timing c.args.program.now c.args.calls.now c.args.answers.now c.args.records.now c.args.copies.now (machine_of g.S.Recovery.meaning c.args.core.now) c.args.data.now (c.loop-i.i + 1) t (set c.loop-i.answers c.loop-i.i c.make-answer.result) c.make-answer.new.records c.make-answer.new.copies (words_known c.newest-image-last.result) (machine_of g.S.Recovery.meaning c.make-answer.new.core) c.make-answer.new.data)
+    subst (λ (t : Totals). Going g.S.Recovery.timing c.args.program.now c.args.calls.now c.args.answers.now c.args.records.now c.args.copies.now (machine_of g.S.Recovery.meaning c.args.core.now) c.args.data.now (c.loop-i.i + 1) t (set c.loop-i.answers c.loop-i.i c.make-answer.result) c.make-answer.new.records c.make-answer.new.copies (words_known c.newest_image-last.result) (machine_of g.S.Recovery.meaning c.make-answer.new.core) c.make-answer.new.data)
     (sym (c.note.ensures.totals ∙ ap (noted c.loop-i.totals c.make-answer.result) made))
     (subst (λ (ws : List ℕ). Going g.S.Recovery.timing c.args.program.now c.args.calls.now c.args.answers.now c.args.records.now c.args.copies.now (machine_of g.S.Recovery.meaning c.args.core.now) c.args.data.now (c.loop-i.i + 1) (noted c.loop-i.totals c.make-answer.result (counted c.loop-i.core.running (report_answer (machine_of g.S.Recovery.meaning c.make-answer.new.core)))) (set c.loop-i.answers c.loop-i.i c.make-answer.result) c.make-answer.new.records c.make-answer.new.copies ws (machine_of g.S.Recovery.meaning c.make-answer.new.core) c.make-answer.new.data)
-    (sym c.newest-image-last.ensures) on)
+    (sym c.newest_image-last.ensures) on)
 
 pub returns : goal.returns
 returns g c =

@@ -7,13 +7,13 @@ pub loop-delay-preserved : goal.loop-delay-preserved
 loop-delay-preserved c =
     let xs = c.args.delays.now in
     let i = c.loop-delay.delay-index in
-    ap (λ b. b && delays_fit (drop (c.loop-delay.delay-index + 1) c.args.delays.now)) c.if-not-one-to-sixteen.ensures
+    ap (λ b. b && delays_fit (drop (c.loop-delay.delay-index + 1) c.args.delays.now)) c.if-not-one_to_sixteen.ensures
     ∙ (sym (at_drop_more delays_fit c.args.delays.now c.loop-delay.delay-index 0 c.loop-delay-test.true) ∙ c.loop-delay.invariant)
 
 pub returns : goal.returns
 returns c = sym (at_drop_all delays_fit c.args.delays.now c.loop-delay.delay-index c.loop-delay-test.false) ∙ c.loop-delay.invariant
 
-pub returns-then-not-one-to-sixteen : goal.returns-then-not-one-to-sixteen
-returns-then-not-one-to-sixteen c =
-    ap (λ b. b && delays_fit (drop (c.loop-delay.delay-index + 1) c.args.delays.now)) c.if-not-one-to-sixteen.ensures
+pub returns-then-not-one_to_sixteen : goal.returns-then-not-one_to_sixteen
+returns-then-not-one_to_sixteen c =
+    ap (λ b. b && delays_fit (drop (c.loop-delay.delay-index + 1) c.args.delays.now)) c.if-not-one_to_sixteen.ensures
     ∙ (sym (at_drop_more delays_fit c.args.delays.now c.loop-delay.delay-index 0 c.loop-delay-test.true) ∙ c.loop-delay.invariant)

@@ -5,5 +5,5 @@ use Rattle.printing.proofs.parts.push_bad_word.Goals as goal
 
 pub returns : goal.returns
 returns c = λ h.
-    pushed (string_bytes c.args.text.now) (string_bytes c.push-str.new.self) c.as-str.result.now (bad_word_line c.args.name.now c.args.index) (is_ok c.push-str.result) h
-    c.push-str.ensures.bytes (c.as-str.ensures.value ∙ c.in-ok-line.ensures.ok)
+    pushed (string_bytes c.args.text.now) (string_bytes c.push_str.new.self) c.as_str.result.now (bad_word_line c.args.name.now c.args.index) (is_ok c.push_str.result) h
+    c.push_str.ensures.bytes (c.as_str.ensures.value ∙ c.in_ok-line.ensures.ok)

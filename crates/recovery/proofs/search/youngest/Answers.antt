@@ -10,14 +10,14 @@ loop-i-init g c =
 
 pub loop-i-preserved : goal.loop-i-preserved
 loop-i-preserved g c =
-    let s = last_step (λ x. g.R.Naming.names x c.args.key) c.args.records.now c.loop-i.i c.index-records-i.result c.is-for.result (omega arith) c.loop-i.invariant.0 c.index-records-i.is c.is-for.ensures in
-    let t = ap (λ b. cond b (Some (c.loop-i.i - 1)) (last_index (λ x. g.R.Naming.names x c.args.key) (take (c.loop-i.i - 1) c.args.records.now))) c.if-is-for.false in
+    let s = last_step (λ x. g.R.Naming.names x c.args.key) c.args.records.now c.loop-i.i c.index-records-i.result c.is_for.result (omega arith) c.loop-i.invariant.0 c.index-records-i.is c.is_for.ensures in
+    let t = ap (λ b. cond b (Some (c.loop-i.i - 1)) (last_index (λ x. g.R.Naming.names x c.args.key) (take (c.loop-i.i - 1) c.args.records.now))) c.if-is_for.false in
     (omega arith, sym t ∙ (s ∙ c.loop-i.invariant.1))
 
-pub returns-then-is-for : goal.returns-then-is-for
-returns-then-is-for g c =
-    let s = last_step (λ x. g.R.Naming.names x c.args.key) c.args.records.now c.loop-i.i c.index-records-i.result c.is-for.result (omega arith) c.loop-i.invariant.0 c.index-records-i.is c.is-for.ensures in
-    let t = ap (λ b. cond b (Some (c.loop-i.i - 1)) (last_index (λ x. g.R.Naming.names x c.args.key) (take (c.loop-i.i - 1) c.args.records.now))) c.if-is-for.true in
+pub returns-then-is_for : goal.returns-then-is_for
+returns-then-is_for g c =
+    let s = last_step (λ x. g.R.Naming.names x c.args.key) c.args.records.now c.loop-i.i c.index-records-i.result c.is_for.result (omega arith) c.loop-i.invariant.0 c.index-records-i.is c.is_for.ensures in
+    let t = ap (λ b. cond b (Some (c.loop-i.i - 1)) (last_index (λ x. g.R.Naming.names x c.args.key) (take (c.loop-i.i - 1) c.args.records.now))) c.if-is_for.true in
     sym t ∙ (s ∙ c.loop-i.invariant.1)
 
 pub returns : goal.returns

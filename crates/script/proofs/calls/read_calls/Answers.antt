@@ -10,33 +10,33 @@ use Rattle.script.proofs.calls.read_calls.Goals as goal
 
 pub loop-line-init : goal.loop-line-init
 loop-line-init c =
-    let e = c.next-line-line.ensures.line in (
-      ap (λ xs. behind (map asked xs) (calls_found (found c.next-line-line.result))) c.new-calls.ensures.items
-          ∙ (behind_none (calls_found (found c.next-line-line.result)) ∙ (ap calls_found e ∙ sym (calls_next c.args.reader.number (lines_of c.args.reader.rest.now)))),
-      c.next-line-line.ensures.some,
+    let e = c.next_line-line.ensures.line in (
+      ap (λ xs. behind (map asked xs) (calls_found (found c.next_line-line.result))) c.new-calls.ensures.items
+          ∙ (behind_none (calls_found (found c.next_line-line.result)) ∙ (ap calls_found e ∙ sym (calls_next c.args.reader.number (lines_of c.args.reader.rest.now)))),
+      c.next_line-line.ensures.some,
       subst (λ f. length f.words ≡ 0 → length f.rest ≡ 0) (sym e) (ended c.args.reader.number (lines_of c.args.reader.rest.now)),
     )
 
-pub returns-in-default : goal.returns-in-default
-returns-in-default c =
+pub returns-in_default : goal.returns-in_default
+returns-in_default c =
     let some : 0 < length c.loop-line.line.code.now = omega (arith, eqb-false _ _ (sym c.loop-line-test.ensures)) in
-    call_none (found c.loop-line.line) (map asked (vec_items c.loop-line.calls)) (c.loop-line.invariant.1 some) (ap (option_map asked) (sym c.in-default.is) ∙ c.in-ok-call.ensures)
+    call_none (found c.loop-line.line) (map asked (vec_items c.loop-line.calls)) (c.loop-line.invariant.1 some) (ap (option_map asked) (sym c.in_default.is) ∙ c.in_ok-call.ensures)
     ∙ c.loop-line.invariant.0
 
 pub loop-line-smaller : goal.loop-line-smaller
 loop-line-smaller c =
     let some : 0 < length c.loop-line.line.code.now = omega (arith, eqb-false _ _ (sym c.loop-line-test.ensures)) in
-    left_less (found c.loop-line.line) (found c.next-line-line-in-loop-line.result) (c.loop-line.invariant.1 some) c.next-line-line-in-loop-line.ensures.line
+    left_less (found c.loop-line.line) (found c.next_line-line-in-loop-line.result) (c.loop-line.invariant.1 some) c.next_line-line-in-loop-line.ensures.line
 
 pub loop-line-preserved : goal.loop-line-preserved
 loop-line-preserved c =
     let some : 0 < length c.loop-line.line.code.now = omega (arith, eqb-false _ _ (sym c.loop-line-test.ensures)) in
-    let e = c.next-line-line-in-loop-line.ensures.line in (
-      call_more (found c.loop-line.line) (found c.next-line-line-in-loop-line.result) (map asked (vec_items c.loop-line.calls)) (map asked (vec_items c.push.new.self)) (asked c.in-Some.call)
-          (c.loop-line.invariant.1 some) (ap (option_map asked) (sym c.in-Some.is) ∙ c.in-ok-call.ensures) e
-          (ap (map asked) c.in-ok-push.ensures.items ∙ map_push asked (vec_items c.loop-line.calls) c.in-Some.call)
+    let e = c.next_line-line-in-loop-line.ensures.line in (
+      call_more (found c.loop-line.line) (found c.next_line-line-in-loop-line.result) (map asked (vec_items c.loop-line.calls)) (map asked (vec_items c.push.new.self)) (asked c.in-Some.call)
+          (c.loop-line.invariant.1 some) (ap (option_map asked) (sym c.in-Some.is) ∙ c.in_ok-call.ensures) e
+          (ap (map asked) c.in_ok-push.ensures.items ∙ map_push asked (vec_items c.loop-line.calls) c.in-Some.call)
           ∙ c.loop-line.invariant.0,
-      c.next-line-line-in-loop-line.ensures.some,
+      c.next_line-line-in-loop-line.ensures.some,
       subst (λ f. length f.words ≡ 0 → length f.rest ≡ 0) (sym e) (ended c.loop-line.line.after.number (lines_of c.loop-line.line.after.rest.now)),
     )
 

@@ -6,6 +6,6 @@ use Rattle.script.proofs.desk.delays_line.Goals as goal
 
 pub returns-in-len4 : goal.returns-in-len4
 returns-in-len4 c =
-    let four : length c.as-slice.result.now ≡ 4 = search rules in
-    four_are c.as-slice.result.now four
-    ∙ (ap (λ xs. four_numbers (Some xs)) c.as-slice.ensures.value ∙ (ap (λ o. four_numbers (option_map vec_items o)) (sym c.in-Some.is) ∙ ap four_numbers c.in-ok-numbers.ensures))
+    let four : length c.as_slice.result.now ≡ 4 = search rules in
+    four_are c.as_slice.result.now four
+    ∙ (ap (λ xs. four_numbers (Some xs)) c.as_slice.ensures.value ∙ (ap (λ o. four_numbers (option_map vec_items o)) (sym c.in-Some.is) ∙ ap four_numbers c.in_ok-numbers.ensures))

@@ -5,14 +5,14 @@ use Rattle.script.specs.Tokens.{lines_of}
 use Rattle.script.proofs.Pieces.{first_line, drop_end, no_lines}
 use Rattle.script.proofs.tokens.split_line.Goals as goal
 
-pub returns-then-is-empty : goal.returns-then-is-empty
-returns-then-is-empty c =
-    let h : length c.args.text.now ≡ 0 = eqb-true _ _ (sym c.if-is-empty.ensures) in
+pub returns-then-is_empty : goal.returns-then-is_empty
+returns-then-is_empty c =
+    let h : length c.args.text.now ≡ 0 = eqb-true _ _ (sym c.if-is_empty.ensures) in
     record { line = no_lines c.args.text.now h; shorter = h }
 
 pub returns-in-empty : goal.returns-in-empty
 returns-in-empty c =
-    let some : 0 < length c.args.text.now = omega (arith, eqb-false _ _ (sym c.if-is-empty.ensures)) in
+    let some : 0 < length c.args.text.now = omega (arith, eqb-false _ _ (sym c.if-is_empty.ensures)) in
     let none : length c.split.result.1.now ≡ 0 = omega (arith, ltb-true) in
     let f = first_line c.args.text.now c.split.result.0.now c.split.result.1.now some c.split.ensures.front c.split.ensures.back in
     let e = drop_end c.split.result.1.now none in
@@ -20,7 +20,7 @@ returns-in-empty c =
 
 pub returns-in-len1-up : goal.returns-in-len1-up
 returns-in-len1-up c =
-    let some : 0 < length c.args.text.now = omega (arith, eqb-false _ _ (sym c.if-is-empty.ensures)) in
+    let some : 0 < length c.args.text.now = omega (arith, eqb-false _ _ (sym c.if-is_empty.ensures)) in
     let f = first_line c.args.text.now c.split.result.0.now c.split.result.1.now some c.split.ensures.front c.split.ensures.back in
     let e = sym (take_rest c.split.result.1.now 1) in
     record { line = f.0 ∙ ap (λ xs. c.split.result.0.now ∷ lines_of xs) e; shorter = omega (arith, f.1, ap length e) }

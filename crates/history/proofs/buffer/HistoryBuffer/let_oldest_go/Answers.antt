@@ -4,7 +4,7 @@ use Rattle.history.proofs.buffer.HistoryBuffer.let_oldest_go.Goals as goal
 
 pub invariant-of-self : goal.invariant-of-self
 invariant-of-self c = (
-  (c.args.self.now.sizes.0, omega (arith, c.rotate-left.ensures.len, c.args.self.now.sizes)),
+  (c.args.self.now.sizes.0, omega (arith, c.rotate_left.ensures.len, c.args.self.now.sizes)),
   (
     c.args.self.now.limits,
     (
@@ -12,7 +12,7 @@ invariant-of-self c = (
       (
         omega arith,
         (
-          guarded_on c.args.self.now (λ z. omega arith) c.rotate-left.new.self c.rotate-left.ensures.after,
+          guarded_on c.args.self.now (λ z. omega arith) c.rotate_left.new.self c.rotate_left.ensures.after,
           tt,
         ),
       ),
@@ -21,4 +21,4 @@ invariant-of-self c = (
 )
 
 pub returns : goal.returns
-returns c = lets_go c.args.self.now c.rotate-left.new.self c.rotate-left.ensures.after
+returns c = lets_go c.args.self.now c.rotate_left.new.self c.rotate_left.ensures.after

@@ -12,12 +12,12 @@ returns-then-at-program g c =
     fault.PastEnd c.drain.result (pipe_of g.S.Recovery.meaning c.drain.new.self)
     (fetched_past c.args.program.now c.args.self.now.next h) c.drain.ensures
 
-pub returns-in-default : goal.returns-in-default
-returns-in-default g c =
+pub returns-in_default : goal.returns-in_default
+returns-in_default g c =
     let h : c.args.self.now.next < length c.args.program.now = omega arith in
     halt_chosen (setting g.S.Recovery.timing c.args.delays.now c.args.program.now) (pipe_of g.S.Recovery.meaning c.args.self.now) c.args.data.now (fetched c.args.program.now c.args.self.now.next)
-    fault.Illegal c.drain-in-default.result (pipe_of g.S.Recovery.meaning c.drain-in-default.new.self)
-    (fetched_at c.args.program.now c.args.self.now.next (Err c.in-default.field-0) h c.in-default.ensures) c.drain-in-default.ensures
+    fault.Illegal c.drain-in_default.result (pipe_of g.S.Recovery.meaning c.drain-in_default.new.self)
+    (fetched_at c.args.program.now c.args.self.now.next (Err c.in_default.field-0) h c.in_default.ensures) c.drain-in_default.ensures
 
 pub returns-in-Some : goal.returns-in-Some
 returns-in-Some g c =
@@ -44,11 +44,11 @@ returns-in-Store g c =
     (c.in-Ok.a ∷ c.in-Ok.b ∷ []) (stores c.in-Ok.n) c.store.result (pipe_of g.S.Recovery.meaning c.store.new.self) c.store.new.data
     (f ∙ ap (λ k. row k c.in-Ok.d c.in-Ok.a c.in-Ok.b c.in-Ok.n) c.in-Store.is) c.store.ensures
 
-pub returns-in-default-kind : goal.returns-in-default-kind
-returns-in-default-kind g c =
+pub returns-in_default-kind : goal.returns-in_default-kind
+returns-in_default-kind g c =
     let h : c.args.self.now.next < length c.args.program.now = omega arith in
     let k = c.in-Ok.kind in
     let f = fetched_at c.args.program.now c.args.self.now.next (Ok (c.in-Ok.kind, c.in-Ok.d, c.in-Ok.a, c.in-Ok.b, c.in-Ok.n)) h c.in-Ok.ensures in
     jump_chosen (setting g.S.Recovery.timing c.args.delays.now c.args.program.now) (pipe_of g.S.Recovery.meaning c.args.self.now) c.args.data.now (fetched c.args.program.now c.args.self.now.next)
     (sources_of k c.in-Ok.a c.in-Ok.b) (target k c.in-Ok.n) c.branch-self.result (pipe_of g.S.Recovery.meaning c.branch-self.new.self)
-    (f ∙ row_jump k c.in-Ok.d c.in-Ok.a c.in-Ok.b c.in-Ok.n c.in-None.ensures c.in-default-kind.not-Stop c.in-default-kind.not-Store) c.branch-self.ensures
+    (f ∙ row_jump k c.in-Ok.d c.in-Ok.a c.in-Ok.b c.in-Ok.n c.in-None.ensures c.in_default-kind.not-Stop c.in_default-kind.not-Store) c.branch-self.ensures

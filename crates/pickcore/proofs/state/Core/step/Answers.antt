@@ -19,14 +19,14 @@ invariant-of-self g c =
     let t = c.cycle-retired.ensures.turn in
     let r = cycle_rise (setting g.S.Recovery.timing c.args.self.now.delays c.args.program.now) c.args.self.now.requested t.tag (pipe_of g.S.Recovery.meaning c.args.self.now.pipe) c.args.data.now in
     let e = ap (λ (x : Turn). x.pipe.count) t.is in
-    (c.args.self.now.units, (c.args.self.now.fit, (c.args.self.now.short, (c.args.self.now.few, (let l = (steppable (machine_of g.S.Recovery.meaning c.args.self.now) (length c.args.program.now) (length c.args.data.now) (sym c.in-default.ensures)).left in omega arith, (let b = c.args.self.now.counted in omega arith, tt))))))
+    (c.args.self.now.units, (c.args.self.now.fit, (c.args.self.now.short, (c.args.self.now.few, (let l = (steppable (machine_of g.S.Recovery.meaning c.args.self.now) (length c.args.program.now) (length c.args.data.now) (sym c.in_default.ensures)).left in omega arith, (let b = c.args.self.now.counted in omega arith, tt))))))
 
 pub returns-in-Stopped : goal.returns-in-Stopped
 returns-in-Stopped g c =
     let st = step_taken g.S.Recovery.timing (machine_of g.S.Recovery.meaning c.args.self.now) c.args.program.now c.args.data.now
     c.cycle-retired.result.0 c.cycle-retired.result.1 (pipe_of g.S.Recovery.meaning c.cycle-retired.new.self) c.cycle-retired.new.data c.new_record.result
     (machine_of g.S.Recovery.meaning c.stop.new.self)
-    c.in-default.ensures c.cycle-retired.ensures.retired c.cycle-retired.ensures.turn c.new_record.ensures
+    c.in_default.ensures c.cycle-retired.ensures.retired c.cycle-retired.ensures.turn c.new_record.ensures
     (c.stop.ensures ∙ ap (after_ending (machine_of g.S.Recovery.meaning c.args.self.now) (pipe_of g.S.Recovery.meaning c.cycle-retired.new.self)) (sym c.in-Stopped.is)) in
     record {
       steps = st;
@@ -34,13 +34,13 @@ returns-in-Stopped g c =
       sound = steps_sound _ _ _ _ _ st;
     }
 
-pub returns-in-default-ending : goal.returns-in-default-ending
-returns-in-default-ending g c =
+pub returns-in_default-ending : goal.returns-in_default-ending
+returns-in_default-ending g c =
     let st = step_taken g.S.Recovery.timing (machine_of g.S.Recovery.meaning c.args.self.now) c.args.program.now c.args.data.now
     c.cycle-retired.result.0 c.cycle-retired.result.1 (pipe_of g.S.Recovery.meaning c.cycle-retired.new.self) c.cycle-retired.new.data c.new_record.result
     (goes_on (machine_of g.S.Recovery.meaning c.args.self.now) (pipe_of g.S.Recovery.meaning c.cycle-retired.new.self))
-    c.in-default.ensures c.cycle-retired.ensures.retired c.cycle-retired.ensures.turn c.new_record.ensures
-    (sym (still_going (machine_of g.S.Recovery.meaning c.args.self.now) (pipe_of g.S.Recovery.meaning c.cycle-retired.new.self) c.cycle-retired.result.1 c.in-default-ending.not-Stopped)) in
+    c.in_default.ensures c.cycle-retired.ensures.retired c.cycle-retired.ensures.turn c.new_record.ensures
+    (sym (still_going (machine_of g.S.Recovery.meaning c.args.self.now) (pipe_of g.S.Recovery.meaning c.cycle-retired.new.self) c.cycle-retired.result.1 c.in_default-ending.not-Stopped)) in
     record {
       steps = st;
       same = λ h. let z : ◌≡◌ {A = ℕ} 0 1 = cc in absurd (omega arith);

@@ -10,15 +10,15 @@ returns g c =
     let core = c.args.self.now in
     let k = g.S.Recovery.timing in
     let before = c.args.buffer.now in
-    let written : (xs : List ℕ) (n : ℕ) → c.registers.result.0 ≡ xs → c.image-count.result ≡ n → c.write-image.new.buffer ≡ write_leaves (record { registers = xs; counter = core.pipe.next; cause = core.cause; count = n }) before =
-    λ xs n e f. c.write-image.ensures.leaves ∙ (ap (λ ys. write_leaves (record { registers = ys; counter = core.pipe.next; cause = core.cause; count = c.image-count.result }) before) e ∙ ap (λ v. write_leaves (record { registers = xs; counter = core.pipe.next; cause = core.cause; count = v }) before) f) in
+    let written : (xs : List ℕ) (n : ℕ) → c.registers.result.0 ≡ xs → c.image_count.result ≡ n → c.write_image.new.buffer ≡ write_leaves (record { registers = xs; counter = core.pipe.next; cause = core.cause; count = n }) before =
+    λ xs n e f. c.write_image.ensures.leaves ∙ (ap (λ ys. write_leaves (record { registers = ys; counter = core.pipe.next; cause = core.cause; count = c.image_count.result }) before) e ∙ ap (λ v. write_leaves (record { registers = xs; counter = core.pipe.next; cause = core.cause; count = v }) before) f) in
     let seen : c.registers.result.0 ≡ looked k (g.S.Recovery.meaning core.pipe.scheme) =
     ap (λ (r : List ℕ × ℕ). r.0) c.registers.ensures.value ∙ ap (λ b. (cond {A = List ℕ × ℕ} b (replicate 16 0, 6) (looked k (g.S.Recovery.meaning core.pipe.scheme), 0)).0) c.if-self.false in
     record {
-      answer = c.write-image.ensures.answer ∙ sym (ap (λ b. cond b (Err refusal.Running) (write_answer before)) c.if-self.false);
-      leaves = written (looked k (g.S.Recovery.meaning core.pipe.scheme)) (count_of_image core.pipe.count) seen c.image-count.ensures.value ∙ sym (ap (λ b. cond b before (write_leaves (record { registers = looked k (g.S.Recovery.meaning core.pipe.scheme); counter = core.pipe.next; cause = core.cause; count = count_of_image core.pipe.count }) before)) c.if-self.false);
-      settled = λ sound off. written (g.S.Recovery.meaning core.pipe.scheme).settled core.pipe.count (ap (λ (r : List ℕ × ℕ). r.0) (c.registers.ensures.settled sound off)) (c.image-count.ensures.value ∙ ap (λ b. cond b core.pipe.count 1000000) (le-leb core.pipe.count 1000000 sound.count));
+      answer = c.write_image.ensures.answer ∙ sym (ap (λ b. cond b (Err refusal.Running) (write_answer before)) c.if-self.false);
+      leaves = written (looked k (g.S.Recovery.meaning core.pipe.scheme)) (count_of_image core.pipe.count) seen c.image_count.ensures.value ∙ sym (ap (λ b. cond b before (write_leaves (record { registers = looked k (g.S.Recovery.meaning core.pipe.scheme); counter = core.pipe.next; cause = core.cause; count = count_of_image core.pipe.count }) before)) c.if-self.false);
+      settled = λ sound off. written (g.S.Recovery.meaning core.pipe.scheme).settled core.pipe.count (ap (λ (r : List ℕ × ℕ). r.0) (c.registers.ensures.settled sound off)) (c.image_count.ensures.value ∙ ap (λ b. cond b core.pipe.count 1000000) (le-leb core.pipe.count 1000000 sound.count));
       reads = λ ok.
           let state : List ℕ → ℕ → Snapshot = λ xs n. record { registers = xs; counter = core.pipe.next; cause = core.cause; count = n } in
-          subst (λ (s : Snapshot). read_words (image_words s) ≡ Ok s) (ap (λ xs. state xs c.image-count.result) seen ∙ ap (state (looked k (g.S.Recovery.meaning core.pipe.scheme))) c.image-count.ensures.value) (c.write-image.ensures.reads ok);
+          subst (λ (s : Snapshot). read_words (image_words s) ≡ Ok s) (ap (λ xs. state xs c.image_count.result) seen ∙ ap (state (looked k (g.S.Recovery.meaning core.pipe.scheme))) c.image_count.ensures.value) (c.write_image.ensures.reads ok);
     }

@@ -3,10 +3,10 @@ use Rattle.reorder.proofs.buffer.Buffer.deliver.Goals as goal
 
 pub returns-in-Some : goal.returns-in-Some
 returns-in-Some c =
-    let r = delivers c.args.self.now c.args.tag c.in-Some.i c.args.res c.status-by.result c.ranges.tag.fits c.in-Some.ensures c.status-by.ensures in
+    let r = delivers c.args.self.now c.args.tag c.in-Some.i c.args.outcome c.status_by.result c.ranges.tag.fits c.in-Some.ensures c.status_by.ensures in
     record { answer = r.0; leaves = r.1 }
 
 pub returns-in-None : goal.returns-in-None
 returns-in-None c =
-    let r = delivers_none c.args.self.now c.args.tag c.args.res c.ranges.tag.fits c.in-None.ensures in
+    let r = delivers_none c.args.self.now c.args.tag c.args.outcome c.ranges.tag.fits c.in-None.ensures in
     record { answer = r.0; leaves = r.1 }

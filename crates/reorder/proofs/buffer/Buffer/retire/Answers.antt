@@ -14,5 +14,5 @@ returns-in-Faulted c =
 
 pub returns-in-Done : goal.returns-in-Done
 returns-in-Done c =
-    let r = retire_done c.args.self.now c.in-Done.word c.put-word.new.file c.rotate-left.new.self c.if-self-eq0.false c.in-Done.is c.put-word.ensures c.rotate-left.ensures.after in
+    let r = retire_done c.args.self.now c.in-Done.word c.put_word.new.file c.rotate_left.new.self c.if-self-eq0.false c.in-Done.is c.put_word.ensures c.rotate_left.ensures.after in
     record { answer = r.0; leaves = r.1 }

@@ -12,8 +12,8 @@ returns c =
     elim c.loop-front-test.branch [
       | then-loop-front-test+else-not-at w ↦
           let p = stopped (stops c.args.self) c.args.bytes.now c.loop-front.front w.loop-front-test.true (sym w.if-not-at.ensures) c.loop-front.invariant in
-          record { front = c.split-at.ensures.front ∙ p.0; back = c.split-at.ensures.back ∙ p.1 }
+          record { front = c.split_at.ensures.front ∙ p.0; back = c.split_at.ensures.back ∙ p.1 }
       | else-loop-front-test w ↦
           let p = passed_all (stops c.args.self) c.args.bytes.now c.loop-front.front w.loop-front-test.false c.loop-front.invariant in
-          record { front = c.split-at.ensures.front ∙ p.0; back = c.split-at.ensures.back ∙ p.1 }
+          record { front = c.split_at.ensures.front ∙ p.0; back = c.split_at.ensures.back ∙ p.1 }
     ]
