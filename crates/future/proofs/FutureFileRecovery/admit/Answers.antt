@@ -2,8 +2,8 @@ use Rattle.reorder.specs.Mean.{mean}
 use Rattle.future.proofs.Keeps.{follows_admit}
 use Rattle.future.proofs.FutureFileRecovery.admit.Goals as goal
 
-pub invariant-of-self : goal.invariant-of-self
-invariant-of-self c = (
+pub invariant_of-self : goal.invariant_of-self
+invariant_of-self c = (
   c.args.self.now.size,
   (follows_admit c.args.self.now.newest (mean c.args.self.now.buffer) (mean c.admit.new.self) c.args.counter c.args.destination c.admit.ensures.tag c.admit.ensures.leaves c.args.self.now.follows, tt),
 )

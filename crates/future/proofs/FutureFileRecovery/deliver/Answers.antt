@@ -4,8 +4,8 @@ use Rattle.future.specs.Current.{written}
 use Rattle.future.proofs.Keeps.{follows_deliver}
 use Rattle.future.proofs.FutureFileRecovery.deliver.Goals as goal
 
-pub invariant-of-self : goal.invariant-of-self
-invariant-of-self c = (
+pub invariant_of-self : goal.invariant_of-self
+invariant_of-self c = (
   search rules,
   (
     follows_deliver c.args.self.now.buffer c.args.self.now.newest c.write_result.new.file (mean c.deliver.new.self) c.args.tag c.args.outcome c.ranges.tag.fits

@@ -6,8 +6,8 @@ use Rattle.history.proofs.HistoryBufferRecovery.admit.Goals as goal
 pub returns-then-self : goal.returns-then-self
 returns-then-self c = admits_full c.args.self.now c.args.counter c.args.destination c.if-awaits.ensures c.if-self.true
 
-pub invariant-of-self : goal.invariant-of-self
-invariant-of-self c = (
+pub invariant_of-self : goal.invariant_of-self
+invariant_of-self c = (
   (c.args.self.now.sizes.0, length-set c.args.self.now.records c.args.self.now.count c.new_record.result ∙ c.args.self.now.sizes.1),
   (
     c.args.self.now.limits,

@@ -3,8 +3,8 @@ use Rattle.history.specs.Buffer.{in_use}
 use Rattle.history.specs.Unwinding.{length_unwind}
 use Rattle.history.proofs.HistoryBufferRecovery.back_out.Goals as goal
 
-pub invariant-of-self : goal.invariant-of-self
-invariant-of-self c = (
+pub invariant_of-self : goal.invariant_of-self
+invariant_of-self c = (
   (ap length c.unwind_all.ensures ∙ (length_unwind (in_use c.args.self.now) c.args.self.now.file ∙ c.args.self.now.sizes.0), c.args.self.now.sizes.1),
   (
     c.args.self.now.limits,

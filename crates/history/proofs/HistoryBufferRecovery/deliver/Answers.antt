@@ -12,8 +12,8 @@ returns-then-i-self c =
     let r = delivers_none c.args.self.now c.args.tag (place_of c.args.self.now c.args.tag) c.args.outcome c.ranges.tag.fits refl (λ l v. absurd (omega arith)) in
     record { answer = r.0; leaves = r.1 }
 
-pub invariant-of-self : goal.invariant-of-self
-invariant-of-self c = (
+pub invariant_of-self : goal.invariant_of-self
+invariant_of-self c = (
   (ap length c.store-progress.ensures.leaves ∙ (length_after c.args.self.now.file (get_or c.args.self.now.records (place_of c.args.self.now c.args.tag) unused).destination c.args.outcome ∙ c.args.self.now.sizes.0), length-set c.args.self.now.records (place_of c.args.self.now c.args.tag) (moved_to (get_or c.args.self.now.records (place_of c.args.self.now c.args.tag) unused) c.store-progress.result) ∙ c.args.self.now.sizes.1),
   (
     c.args.self.now.limits,

@@ -2,8 +2,8 @@ use Rattle.std.proofs.Common.{arith}
 use Rattle.history.specs.Steps.{lets_go, guarded_on}
 use Rattle.history.proofs.buffer.HistoryBuffer.let_oldest_go.Goals as goal
 
-pub invariant-of-self : goal.invariant-of-self
-invariant-of-self c = (
+pub invariant_of-self : goal.invariant_of-self
+invariant_of-self c = (
   (c.args.self.now.sizes.0, omega (arith, c.rotate_left.ensures.len, c.args.self.now.sizes)),
   (
     c.args.self.now.limits,

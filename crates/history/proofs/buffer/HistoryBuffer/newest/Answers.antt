@@ -3,8 +3,8 @@ use Rattle.history.specs.declared.buffer.Progress.TheVariants.{Waiting, Finished
 use Rattle.history.specs.Unwinding.{newest_within, newest_some, newest_none}
 use Rattle.history.proofs.buffer.HistoryBuffer.newest.Goals as goal
 
-pub offset-bounds-self-i : goal.offset-bounds-self-i
-offset-bounds-self-i c =
+pub offset_bounds-self-i : goal.offset_bounds-self-i
+offset_bounds-self-i c =
     let h = newest_within 0 c.args.self.now.count c.args.register c.args.self.now.records c.args.self.now.file c.in-Some.i c.in-Some.ensures in
     omega (arith, c.args.self.now.limits, c.args.self.now.room)
 

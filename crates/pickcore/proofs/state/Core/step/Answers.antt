@@ -14,8 +14,8 @@ returns-in-Some g c = record {
   sound = λ h. h;
 }
 
-pub invariant-of-self : goal.invariant-of-self
-invariant-of-self g c =
+pub invariant_of-self : goal.invariant_of-self
+invariant_of-self g c =
     let t = c.cycle-retired.ensures.turn in
     let r = cycle_rise (setting g.S.Recovery.timing c.args.self.now.delays c.args.program.now) c.args.self.now.requested t.tag (pipe_of g.S.Recovery.meaning c.args.self.now.pipe) c.args.data.now in
     let e = ap (λ (x : Turn). x.pipe.count) t.is in

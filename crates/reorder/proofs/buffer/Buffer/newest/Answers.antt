@@ -2,8 +2,8 @@ use Rattle.std.proofs.Common.{arith}
 use Rattle.recovery.proofs.Flights.{newest_within, newest_some, newest_none}
 use Rattle.reorder.proofs.buffer.Buffer.newest.Goals as goal
 
-pub offset-bounds-self-i : goal.offset-bounds-self-i
-offset-bounds-self-i c =
+pub offset_bounds-self-i : goal.offset_bounds-self-i
+offset_bounds-self-i c =
     let h = newest_within 0 c.args.self.now.count c.args.register c.args.self.now.slots c.in-Some.i c.in-Some.ensures in
     omega (arith, c.args.self.now.room)
 
