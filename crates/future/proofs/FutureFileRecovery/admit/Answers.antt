@@ -3,7 +3,4 @@ use Rattle.future.proofs.Keeps.{follows_admit}
 use Rattle.future.proofs.FutureFileRecovery.admit.Goals as goal
 
 pub invariant_of-self : goal.invariant_of-self
-invariant_of-self c = (
-  c.args.self.now.size,
-  (follows_admit c.args.self.now.newest (mean c.args.self.now.buffer) (mean c.admit.new.self) c.args.counter c.args.destination c.admit.ensures.tag c.admit.ensures.leaves c.args.self.now.follows, tt),
-)
+invariant_of-self c = record { size = c.args.self.now.size; follows = follows_admit c.args.self.now.newest (mean c.args.self.now.buffer) (mean c.admit.new.self) c.args.counter c.args.destination c.admit.ensures.tag c.admit.ensures.leaves c.args.self.now.follows }

@@ -13,22 +13,7 @@ returns-then-i-self c =
     record { answer = r.0; leaves = r.1 }
 
 pub invariant_of-self : goal.invariant_of-self
-invariant_of-self c = (
-  (ap length c.store-progress.ensures.leaves ∙ (length_after c.args.self.now.file (get_or c.args.self.now.records (place_of c.args.self.now c.args.tag) unused).destination c.args.outcome ∙ c.args.self.now.sizes.0), length-set c.args.self.now.records (place_of c.args.self.now c.args.tag) (moved_to (get_or c.args.self.now.records (place_of c.args.self.now c.args.tag) unused) c.store-progress.result) ∙ c.args.self.now.sizes.1),
-  (
-    c.args.self.now.limits,
-    (
-      c.args.self.now.room,
-      (
-        c.args.self.now.tagged,
-        (
-          guarded_then c.args.self.now (place_of c.args.self.now c.args.tag) c.args.outcome c.store-progress.result c.store-progress.ensures.answer c.if-i-self.false,
-          tt,
-        ),
-      ),
-    ),
-  ),
-)
+invariant_of-self c = record { sizes = (ap length c.store-progress.ensures.leaves ∙ (length_after c.args.self.now.file (get_or c.args.self.now.records (place_of c.args.self.now c.args.tag) unused).destination c.args.outcome ∙ c.args.self.now.sizes.0), length-set c.args.self.now.records (place_of c.args.self.now c.args.tag) (moved_to (get_or c.args.self.now.records (place_of c.args.self.now c.args.tag) unused) c.store-progress.result) ∙ c.args.self.now.sizes.1); limits = c.args.self.now.limits; room = c.args.self.now.room; tagged = c.args.self.now.tagged; undisturbed = guarded_then c.args.self.now (place_of c.args.self.now c.args.tag) c.args.outcome c.store-progress.result c.store-progress.ensures.answer c.if-i-self.false }
 
 pub returns-in-Waiting : goal.returns-in-Waiting
 returns-in-Waiting c =
