@@ -15,8 +15,8 @@ use recovery::Recovery;
 
 // The image of a core as words.
 pub(crate) fn image<S: Recovery>(core: &Core<S>) -> Result<[u32; IMAGE_WORDS], Refusal>
-    ensures value { result ≡ image_of timing (machine_of meaning core.now) }
-    ensures reads { is_ok result ≡ true → read_words (image_words (imaged timing (machine_of meaning core.now))) ≡ Ok (imaged timing (machine_of meaning core.now)) }
+    ensures value { result ≡ image_of S.timing (machine_of S.meaning core.now) }
+    ensures reads { is_ok result ≡ true → read_words (image_words (imaged S.timing (machine_of S.meaning core.now))) ≡ Ok (imaged S.timing (machine_of S.meaning core.now)) }
 {
     let mut words = [0; IMAGE_WORDS];
     core.write_image(&mut words)?;
@@ -39,9 +39,9 @@ fn take_up_last<S: Recovery>(
     core: &mut Core<S>,
     last: &Option<[u32; IMAGE_WORDS]>,
 ) -> Result<(), Refusal>
-    ensures answer { result ≡ accepted (take_up_refusal (machine_of meaning core.old) (words_known last.now)) }
-    ensures leaves { machine_of meaning core.new ≡ take_up_leaves (machine_of meaning core.old) (words_known last.now) }
-    ensures sound { Sound (machine_of meaning core.old) → Sound (machine_of meaning core.new) }
+    ensures answer { result ≡ accepted (take_up_refusal (machine_of S.meaning core.old) (words_known last.now)) }
+    ensures leaves { machine_of S.meaning core.new ≡ take_up_leaves (machine_of S.meaning core.old) (words_known last.now) }
+    ensures sound { Sound (machine_of S.meaning core.old) → Sound (machine_of S.meaning core.new) }
 {
     match last {
         Some(words) => core.take_up(words),
@@ -59,8 +59,8 @@ fn run<S: Recovery>(
     from: usize,
 ) -> Result<usize, Refusal>
     requires { from ≤ length records.old }
-    ensures ran { RanInto timing program.now records.old from limit (machine_of meaning core.old) «data».old result records.new (machine_of meaning core.new) «data».new }
-    ensures sound { Sound (machine_of meaning core.old) → Sound (machine_of meaning core.new) }
+    ensures ran { RanInto S.timing program.now records.old from limit (machine_of S.meaning core.old) «data».old result records.new (machine_of S.meaning core.new) «data».new }
+    ensures sound { Sound (machine_of S.meaning core.old) → Sound (machine_of S.meaning core.new) }
 {
     let most = limit.min(records.len() - from);
     core.run(program, data, &mut records[from..from + most])
@@ -79,8 +79,8 @@ pub(crate) fn make<S: Recovery>(
     copied: usize,
 ) -> Answer
     requires { (used ≤ length records.old) × (copied ≤ length copies.old) }
-    ensures made { MadeInto timing program.now (words_known last.now) records.old used copies.old copied (machine_of meaning core.old) «data».old call.now result records.new copies.new (machine_of meaning core.new) «data».new }
-    ensures sound { Sound (machine_of meaning core.old) → Sound (machine_of meaning core.new) }
+    ensures made { MadeInto S.timing program.now (words_known last.now) records.old used copies.old copied (machine_of S.meaning core.old) «data».old call.now result records.new copies.new (machine_of S.meaning core.new) «data».new }
+    ensures sound { Sound (machine_of S.meaning core.old) → Sound (machine_of S.meaning core.new) }
 {
     match call {
         Call::Step => Answer::Stepped(core.step(program, data)),

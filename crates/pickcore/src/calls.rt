@@ -51,7 +51,7 @@ fn image_count(count: u32) -> u32
 // Puts a word into each register, from the first on.
 fn place_registers<S: Recovery>(scheme: &mut S, words: &[u32])
     requires { length words.now ≡ 16 }
-    ensures { meaning scheme.new ≡ placed_from (meaning scheme.old) 0 words.now }
+    ensures { S.meaning scheme.new ≡ placed_from (S.meaning scheme.old) 0 words.now }
 {
     for (register, word) in words.iter().enumerate() {
         let _ = scheme.place(register as u8, *word);
@@ -61,8 +61,8 @@ fn place_registers<S: Recovery>(scheme: &mut S, words: &[u32])
 impl<S: Recovery> Core<S> {
     // A core never loaded: stopped, with delays, capacity and program length 1, no data words and zeros elsewhere.
     pub fn new() -> Core<S>
-        ensures value { machine_of meaning result ≡ unloaded }
-        ensures sound { Sound (machine_of meaning result) }
+        ensures value { machine_of S.meaning result ≡ unloaded }
+        ensures sound { Sound (machine_of S.meaning result) }
     {
         Core {
             pipe: Pipeline {
@@ -90,10 +90,10 @@ impl<S: Recovery> Core<S> {
         program_length: u32,
         data_length: u32,
     ) -> Result<(), Refusal>
-        ensures answer { result ≡ accepted (load_refusal (machine_of meaning self.old) delays capacity program_length data_length) }
-        ensures leaves { machine_of meaning self.new ≡ load_leaves (machine_of meaning self.old) delays capacity program_length data_length }
+        ensures answer { result ≡ accepted (load_refusal (machine_of S.meaning self.old) delays capacity program_length data_length) }
+        ensures leaves { machine_of S.meaning self.new ≡ load_leaves (machine_of S.meaning self.old) delays capacity program_length data_length }
         ensures same { is_err result ≡ true → self.new ≡ self.old }
-        ensures made { is_ok result ≡ true → Sound (machine_of meaning self.new) }
+        ensures made { is_ok result ≡ true → Sound (machine_of S.meaning self.new) }
     {
         if self.running {
             return Err(Refusal::Running);
@@ -125,10 +125,10 @@ impl<S: Recovery> Core<S> {
 
     // Starts at a counter; count and cycles become 0.
     pub fn resume(&mut self, counter: u32) -> Result<(), Refusal>
-        ensures answer { result ≡ accepted (resume_refusal (machine_of meaning self.old) counter) }
-        ensures leaves { machine_of meaning self.new ≡ resume_leaves (machine_of meaning self.old) counter }
+        ensures answer { result ≡ accepted (resume_refusal (machine_of S.meaning self.old) counter) }
+        ensures leaves { machine_of S.meaning self.new ≡ resume_leaves (machine_of S.meaning self.old) counter }
         ensures same { is_err result ≡ true → self.new ≡ self.old }
-        ensures sound { Sound (machine_of meaning self.old) → Sound (machine_of meaning self.new) }
+        ensures sound { Sound (machine_of S.meaning self.old) → Sound (machine_of S.meaning self.new) }
     {
         if self.running {
             return Err(Refusal::Running);
@@ -145,7 +145,7 @@ impl<S: Recovery> Core<S> {
 
     // Why the core stopped, at which counter, after how many instructions.
     pub fn report(&self) -> Result<Report, Refusal>
-        ensures { result ≡ report_answer (machine_of meaning self.now) }
+        ensures { result ≡ report_answer (machine_of S.meaning self.now) }
     {
         if self.running {
             return Err(Refusal::Running);
@@ -159,7 +159,7 @@ impl<S: Recovery> Core<S> {
 
     // Why a step would be declined, if it would.
     fn step_refusal(&self, program_length: usize, data_length: usize) -> Option<Refusal>
-        ensures { result ≡ step_refusal (machine_of meaning self.now) program_length data_length }
+        ensures { result ≡ step_refusal (machine_of S.meaning self.now) program_length data_length }
     {
         if !self.running {
             return Some(Refusal::Stopped);
@@ -177,7 +177,7 @@ impl<S: Recovery> Core<S> {
 
     // Stops with a cause; a request that is met is no longer marked.
     fn stop(&mut self, cause: Cause)
-        ensures { machine_of meaning self.new ≡ stopped (machine_of meaning self.old) cause }
+        ensures { machine_of S.meaning self.new ≡ stopped (machine_of S.meaning self.old) cause }
     {
         self.running = false;
         self.requested = match cause {
@@ -189,9 +189,9 @@ impl<S: Recovery> Core<S> {
 
     // Moves the core by one cycle, and tells what it did.
     pub fn step(&mut self, program: &[u32], data: &mut [u32]) -> Result<CycleRecord, Refusal>
-        ensures steps { Steps timing (machine_of meaning self.old) program.now «data».old (record { answer = result; machine = machine_of meaning self.new; words = «data».new }) }
+        ensures steps { Steps S.timing (machine_of S.meaning self.old) program.now «data».old (record { answer = result; machine = machine_of S.meaning self.new; words = «data».new }) }
         ensures same { is_err result ≡ true → self.new ≡ self.old }
-        ensures sound { Sound (machine_of meaning self.old) → Sound (machine_of meaning self.new) }
+        ensures sound { Sound (machine_of S.meaning self.old) → Sound (machine_of S.meaning self.new) }
     {
         if let Some(refusal) = self.step_refusal(program.len(), data.len()) {
             return Err(refusal);
@@ -207,10 +207,10 @@ impl<S: Recovery> Core<S> {
 
     // Puts a word into a register of a stopped core.
     pub fn amend(&mut self, register: u32, word: u32) -> Result<(), Refusal>
-        ensures answer { result ≡ accepted (amend_refusal (machine_of meaning self.old) register) }
-        ensures leaves { machine_of meaning self.new ≡ amend_leaves (machine_of meaning self.old) register word }
+        ensures answer { result ≡ accepted (amend_refusal (machine_of S.meaning self.old) register) }
+        ensures leaves { machine_of S.meaning self.new ≡ amend_leaves (machine_of S.meaning self.old) register word }
         ensures same { is_err result ≡ true → self.new ≡ self.old }
-        ensures sound { Sound (machine_of meaning self.old) → Sound (machine_of meaning self.new) }
+        ensures sound { Sound (machine_of S.meaning self.old) → Sound (machine_of S.meaning self.new) }
     {
         if self.running {
             return Err(Refusal::Running);
@@ -224,10 +224,10 @@ impl<S: Recovery> Core<S> {
 
     // Marks a request: the core stops once nothing is in flight.
     pub fn request(&mut self) -> Result<(), Refusal>
-        ensures answer { result ≡ accepted (stopped_refusal (machine_of meaning self.old)) }
-        ensures leaves { machine_of meaning self.new ≡ request_leaves (machine_of meaning self.old) }
+        ensures answer { result ≡ accepted (stopped_refusal (machine_of S.meaning self.old)) }
+        ensures leaves { machine_of S.meaning self.new ≡ request_leaves (machine_of S.meaning self.old) }
         ensures same { is_err result ≡ true → self.new ≡ self.old }
-        ensures sound { Sound (machine_of meaning self.old) → Sound (machine_of meaning self.new) }
+        ensures sound { Sound (machine_of S.meaning self.old) → Sound (machine_of S.meaning self.new) }
     {
         if !self.running {
             return Err(Refusal::Stopped);
@@ -239,10 +239,10 @@ impl<S: Recovery> Core<S> {
     // Stops at once: what is in flight is taken back, and the counter is the oldest entry's, or the next one if nothing
     // is in flight.
     pub fn cut(&mut self) -> Result<(), Refusal>
-        ensures answer { result ≡ accepted (stopped_refusal (machine_of meaning self.old)) }
-        ensures leaves { machine_of meaning self.new ≡ cut_leaves (machine_of meaning self.old) }
+        ensures answer { result ≡ accepted (stopped_refusal (machine_of S.meaning self.old)) }
+        ensures leaves { machine_of S.meaning self.new ≡ cut_leaves (machine_of S.meaning self.old) }
         ensures same { is_err result ≡ true → self.new ≡ self.old }
-        ensures sound { Sound (machine_of meaning self.old) → Sound (machine_of meaning self.new) }
+        ensures sound { Sound (machine_of S.meaning self.old) → Sound (machine_of S.meaning self.new) }
     {
         if !self.running {
             return Err(Refusal::Stopped);
@@ -264,9 +264,9 @@ impl<S: Recovery> Core<S> {
         data: &mut [u32],
         records: &mut [CycleRecord],
     ) -> Result<usize, Refusal>
-        ensures runs { Runs timing program.now (machine_of meaning self.old) «data».old records.old result records.new (machine_of meaning self.new) «data».new }
+        ensures runs { Runs S.timing program.now (machine_of S.meaning self.old) «data».old records.old result records.new (machine_of S.meaning self.new) «data».new }
         ensures same { is_err result ≡ true → self.new ≡ self.old }
-        ensures sound { Sound (machine_of meaning self.old) → Sound (machine_of meaning self.new) }
+        ensures sound { Sound (machine_of S.meaning self.old) → Sound (machine_of S.meaning self.new) }
     {
         if let Some(refusal) = self.step_refusal(program.len(), data.len()) {
             return Err(refusal);
@@ -276,8 +276,8 @@ impl<S: Recovery> Core<S> {
 
     // The steps of a run that is accepted.
     fn fill(&mut self, program: &[u32], data: &mut [u32], records: &mut [CycleRecord]) -> usize
-        ensures ran { Ran timing program.now (machine_of meaning self.old) «data».old records.old result records.new (machine_of meaning self.new) «data».new }
-        ensures sound { Sound (machine_of meaning self.old) → Sound (machine_of meaning self.new) }
+        ensures ran { Ran S.timing program.now (machine_of S.meaning self.old) «data».old records.old result records.new (machine_of S.meaning self.new) «data».new }
+        ensures sound { Sound (machine_of S.meaning self.old) → Sound (machine_of S.meaning self.new) }
     {
         let mut done = 0;
         while done < records.len() {
@@ -292,8 +292,8 @@ impl<S: Recovery> Core<S> {
 
     // All sixteen words with number 0, or sixteen zeros with a refusal's number.
     pub fn registers(&self) -> ([u32; 16], u32)
-        ensures value { result ≡ registers_answer timing (machine_of meaning self.now) }
-        ensures settled { Sound (machine_of meaning self.now) → self.now.running ≡ false → result ≡ ((meaning self.now.pipe.scheme).settled, 0) }
+        ensures value { result ≡ registers_answer S.timing (machine_of S.meaning self.now) }
+        ensures settled { Sound (machine_of S.meaning self.now) → self.now.running ≡ false → result ≡ ((S.meaning self.now.pipe.scheme).settled, 0) }
     {
         let mut words = [0; 16];
         if self.running {
@@ -307,10 +307,10 @@ impl<S: Recovery> Core<S> {
 
     // Writes the image of a stopped core to the front of a buffer; later words stay.
     pub fn write_image(&self, buffer: &mut [u32]) -> Result<(), Refusal>
-        ensures answer { result ≡ image_answer (machine_of meaning self.now) buffer.old }
-        ensures leaves { buffer.new ≡ image_leaves timing (machine_of meaning self.now) buffer.old }
-        ensures settled { Sound (machine_of meaning self.now) → self.now.running ≡ false → buffer.new ≡ write_leaves (between (machine_of meaning self.now)) buffer.old }
-        ensures reads { is_ok result ≡ true → read_words (image_words (imaged timing (machine_of meaning self.now))) ≡ Ok (imaged timing (machine_of meaning self.now)) }
+        ensures answer { result ≡ image_answer (machine_of S.meaning self.now) buffer.old }
+        ensures leaves { buffer.new ≡ image_leaves S.timing (machine_of S.meaning self.now) buffer.old }
+        ensures settled { Sound (machine_of S.meaning self.now) → self.now.running ≡ false → buffer.new ≡ write_leaves (between (machine_of S.meaning self.now)) buffer.old }
+        ensures reads { is_ok result ≡ true → read_words (image_words (imaged S.timing (machine_of S.meaning self.now))) ≡ Ok (imaged S.timing (machine_of S.meaning self.now)) }
     {
         if self.running {
             return Err(Refusal::Running);
@@ -327,12 +327,12 @@ impl<S: Recovery> Core<S> {
 
     // Takes up an image: registers, counter, cause and count become those that it holds.
     pub fn take_up(&mut self, image: &[u32]) -> Result<(), Refusal>
-        ensures answer { result ≡ accepted (take_up_refusal (machine_of meaning self.old) image.now) }
-        ensures leaves { machine_of meaning self.new ≡ take_up_leaves (machine_of meaning self.old) image.now }
+        ensures answer { result ≡ accepted (take_up_refusal (machine_of S.meaning self.old) image.now) }
+        ensures leaves { machine_of S.meaning self.new ≡ take_up_leaves (machine_of S.meaning self.old) image.now }
         ensures same { is_err result ≡ true → self.new ≡ self.old }
-        ensures sound { Sound (machine_of meaning self.old) → Sound (machine_of meaning self.new) }
-        ensures held { Sound (machine_of meaning self.old) → is_ok result ≡ true → read_words image.now ≡ Ok (between (machine_of meaning self.new)) }
-        ensures again { Sound (machine_of meaning self.old) → is_ok result ≡ true → image_words (between (machine_of meaning self.new)) ≡ image.now }
+        ensures sound { Sound (machine_of S.meaning self.old) → Sound (machine_of S.meaning self.new) }
+        ensures held { Sound (machine_of S.meaning self.old) → is_ok result ≡ true → read_words image.now ≡ Ok (between (machine_of S.meaning self.new)) }
+        ensures again { Sound (machine_of S.meaning self.old) → is_ok result ≡ true → image_words (between (machine_of S.meaning self.new)) ≡ image.now }
     {
         if self.running {
             return Err(Refusal::Running);

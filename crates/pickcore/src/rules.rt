@@ -26,8 +26,8 @@ impl<S: Recovery> Pipeline<S> {
         data: &mut [u32],
     ) -> (Option<u16>, Ending)
         requires { (length program.now ≤ 4096) × (self.old.count < 3999999999) }
-        ensures retired { result.0 ≡ retires (pipe_of meaning self.old) }
-        ensures turn { Chosen (λ t. cycle (setting timing delays.now program.now) requested t (pipe_of meaning self.old) «data».old) (flight_at_admission (pipe_of meaning self.old)) result.1 (record { ending = result.1; pipe = pipe_of meaning self.new; words = «data».new }) }
+        ensures retired { result.0 ≡ retires (pipe_of S.meaning self.old) }
+        ensures turn { Chosen (λ t. cycle (setting S.timing delays.now program.now) requested t (pipe_of S.meaning self.old) «data».old) (flight_at_admission (pipe_of S.meaning self.old)) result.1 (record { ending = result.1; pipe = pipe_of S.meaning self.new; words = «data».new }) }
     {
         // rules 1 and 2
         self.deliver_first();
@@ -48,7 +48,7 @@ impl<S: Recovery> Pipeline<S> {
 
     // Rule 1: the first stage, if taken, is delivered and emptied.
     fn deliver_first(&mut self)
-        ensures { pipe_of meaning self.new ≡ arrived (pipe_of meaning self.old) }
+        ensures { pipe_of S.meaning self.new ≡ arrived (pipe_of S.meaning self.old) }
     {
         if let Some(stage) = self.stages.take_first() {
             let _ = self.scheme.deliver(stage.tag, stage.result);
@@ -57,7 +57,7 @@ impl<S: Recovery> Pipeline<S> {
 
     // Backs out the flight and empties the stages, with the counter that the core stops at.
     pub(crate) fn empty(&mut self, counter: u16)
-        ensures { pipe_of meaning self.new ≡ emptied (pipe_of meaning self.old) counter }
+        ensures { pipe_of S.meaning self.new ≡ emptied (pipe_of S.meaning self.old) counter }
     {
         self.scheme.back_out();
         self.stages = Stages::empty();
@@ -73,7 +73,7 @@ impl<S: Recovery> Pipeline<S> {
         data: &mut [u32],
     ) -> Ending
         requires { (length program.now ≤ 4096) × (self.old.count < 4000000000) }
-        ensures { Chosen (λ t. front (setting timing delays.now program.now) requested t (pipe_of meaning self.old) «data».old) (meaning self.old.scheme).flight result (record { ending = result; pipe = pipe_of meaning self.new; words = «data».new }) }
+        ensures { Chosen (λ t. front (setting S.timing delays.now program.now) requested t (pipe_of S.meaning self.old) «data».old) (S.meaning self.old.scheme).flight result (record { ending = result; pipe = pipe_of S.meaning self.new; words = «data».new }) }
     {
         if requested {
             return self.drain(Hold::Request, Cause::Request);
@@ -83,7 +83,7 @@ impl<S: Recovery> Pipeline<S> {
 
     // Rules 4 and 5: a stop at the next counter, once nothing is in flight; until then a hold.
     fn drain(&mut self, hold: Hold, cause: Cause) -> Ending
-        ensures { record { ending = result; pipe = pipe_of meaning self.new } ≡ drains (pipe_of meaning self.old) hold cause }
+        ensures { record { ending = result; pipe = pipe_of S.meaning self.new } ≡ drains (pipe_of S.meaning self.old) hold cause }
     {
         if self.scheme.oldest().is_some() {
             return Ending::Held(hold);
@@ -95,7 +95,7 @@ impl<S: Recovery> Pipeline<S> {
     // Rules 5 to 7, by the next instruction.
     fn issue(&mut self, delays: &[u32; UNITS], program: &[u32], data: &mut [u32]) -> Ending
         requires { (length program.now ≤ 4096) × (self.old.count < 4000000000) }
-        ensures { Chosen (λ t. dispatch (setting timing delays.now program.now) t (pipe_of meaning self.old) «data».old (fetched program.now self.old.next)) (meaning self.old.scheme).flight result (record { ending = result; pipe = pipe_of meaning self.new; words = «data».new }) }
+        ensures { Chosen (λ t. dispatch (setting S.timing delays.now program.now) t (pipe_of S.meaning self.old) «data».old (fetched program.now self.old.next)) (S.meaning self.old.scheme).flight result (record { ending = result; pipe = pipe_of S.meaning self.new; words = «data».new }) }
     {
         let at = self.next as usize;
         if at >= program.len() {
@@ -117,7 +117,7 @@ impl<S: Recovery> Pipeline<S> {
     // Rule 5 for a store: with nothing in flight it is written at once, and never enters the flight.
     fn store(&mut self, a: u8, b: u8, n: u16, data: &mut [u32]) -> Ending
         requires { (a < 16) × (b < 16) × (self.old.next < 65535) × (self.old.count < 4000000000) }
-        ensures { record { ending = result; pipe = pipe_of meaning self.new; words = «data».new } ≡ putting (pipe_of meaning self.old) «data».old (a ∷ b ∷ []) (stores n) (oldest_answer (meaning self.old.scheme)) }
+        ensures { record { ending = result; pipe = pipe_of S.meaning self.new; words = «data».new } ≡ putting (pipe_of S.meaning self.old) «data».old (a ∷ b ∷ []) (stores n) (oldest_answer (S.meaning self.old.scheme)) }
     {
         if self.scheme.oldest().is_some() {
             return Ending::Held(Hold::Flight);
@@ -142,7 +142,7 @@ impl<S: Recovery> Pipeline<S> {
     // Rules 6 and 7 for an instruction with a result, on a unit of this delay.
     fn work(&mut self, kind: Kind, d: u8, a: u8, b: u8, n: u16, delay: u32, data: &[u32]) -> Ending
         requires { self.old.next < 65535 }
-        ensures { Chosen (λ t. working t (pipe_of meaning self.old) «data».now delay d (computes kind n) (looks timing (meaning self.old.scheme) (sources_of kind a b))) (meaning self.old.scheme).flight result (record { ending = result; pipe = pipe_of meaning self.new }) }
+        ensures { Chosen (λ t. working t (pipe_of S.meaning self.old) «data».now delay d (computes kind n) (looks S.timing (S.meaning self.old.scheme) (sources_of kind a b))) (S.meaning self.old.scheme).flight result (record { ending = result; pipe = pipe_of S.meaning self.new }) }
     {
         let Some((x, y)) = self.operands(kind, a, b) else {
             return Ending::Held(Hold::Source);
@@ -166,7 +166,7 @@ impl<S: Recovery> Pipeline<S> {
     // Rules 6 and 7 for a branch: it takes no stage, and moves the counter as it issues.
     fn branch(&mut self, kind: Kind, a: u8, b: u8, n: u16) -> Ending
         requires { self.old.next < 65535 }
-        ensures { Chosen (λ t. jumping t (pipe_of meaning self.old) (target kind n) (looks timing (meaning self.old.scheme) (sources_of kind a b))) (meaning self.old.scheme).flight result (record { ending = result; pipe = pipe_of meaning self.new }) }
+        ensures { Chosen (λ t. jumping t (pipe_of S.meaning self.old) (target kind n) (looks S.timing (S.meaning self.old.scheme) (sources_of kind a b))) (S.meaning self.old.scheme).flight result (record { ending = result; pipe = pipe_of S.meaning self.new }) }
     {
         let Some((x, y)) = self.operands(kind, a, b) else {
             return Ending::Held(Hold::Source);
@@ -184,7 +184,7 @@ impl<S: Recovery> Pipeline<S> {
 
     // The words of an instruction's sources; none where one of them is awaited.
     fn operands(&self, kind: Kind, a: u8, b: u8) -> Option<(u32, u32)>
-        ensures { result ≡ operands (looks timing (meaning self.now.scheme) (sources_of kind a b)) }
+        ensures { result ≡ operands (looks S.timing (S.meaning self.now.scheme) (sources_of kind a b)) }
     {
         match kind {
             Kind::Stop | Kind::Set => Some((0, 0)),
