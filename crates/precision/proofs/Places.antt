@@ -1,6 +1,6 @@
 -- Where taken stages stand: none past the longest delay, and each one place nearer as the stages move on.
 use Rattle.std.proofs.Common.{◌≡◌, ℕ, zero, suc, ◌<◌, Bool, true, false, cond, ◌||◌, eqb, List, [], ◌∷◌, ◌++◌, length, get_or, drop, set, replicate, Some, None, Option, refl, ap, arith}
-use Rattle.std.proofs.lemmas.Bool.{or_left, or_right, both_ways, cond_false, eq-eqb}
+use Rattle.std.proofs.lemmas.Bool.{or_left, or_right, both_ways, cond-false, eq-eqb}
 use Rattle.pickcore.specs.declared.stages.Stage.{Stage}
 use Rattle.pickcore.specs.Sound.{staged}
 use Rattle.precision.specs.Waits.{Within, place}
@@ -76,7 +76,7 @@ place_moved t (Some x ∷ xs) h l = by (eqb x.tag t) h l
 
 pub place_set : (t i : ℕ) (x : Stage) (xs : List (Option Stage)) → get_or xs i None ≡ None → eqb x.tag t ≡ false → place t (set xs i (Some x)) ≡ place t xs
 place_set t i x [] h n = refl
-place_set t zero x (None ∷ xs) h n = cond_false (eqb x.tag t) 0 (suc (place t xs)) n
+place_set t zero x (None ∷ xs) h n = cond-false (eqb x.tag t) 0 (suc (place t xs)) n
 place_set t zero x (Some y ∷ xs) h n = let z : ◌≡◌ {A = ℕ} 0 1 = cc in absurd (omega arith)
 place_set t (suc i) x (None ∷ xs) h n = ap suc (place_set t i x xs h n)
 place_set t (suc i) x (Some y ∷ xs) h n = ap (λ k. cond (eqb y.tag t) 0 (suc k)) (place_set t i x xs h n)

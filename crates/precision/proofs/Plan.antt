@@ -1,6 +1,6 @@
 -- What a flight comes to stays as stages are delivered and move on, and an issue adds one entry to it.
 use Rattle.std.proofs.Common.{◌≡◌, ℕ, zero, suc, ◌<◌, Bool, true, false, cond, ◌&&◌, eqb, List, [], ◌∷◌, ◌++◌, length, get_or, drop, set, Some, None, Ok, Err, Option, Result, refl, ap, ◌∙◌, ap₂, arith}
-use Rattle.std.proofs.lemmas.Bool.{or_parts, and_left, and_right, cond-true, cond_false, eq-eqb, and_from}
+use Rattle.std.proofs.lemmas.Bool.{or_parts, and_left, and_right, cond-true, cond-false, eq-eqb, and_from}
 use Rattle.std.proofs.lemmas.Bool.Decides.{nat_tests}
 use Rattle.isa.specs.declared.fault.Fault.{Fault}
 use Rattle.recovery.specs.declared.Status.{Status}
@@ -25,7 +25,7 @@ fate_end (Some x ∷ xs) t y = fate_end xs t (cond (eqb t x.tag && is_pending y)
 
 -- a stage that is not for the entry
 fate_past : (x : Stage) (xs : List (Option Stage)) (t : ℕ) (y : Status) → (eqb t x.tag && is_pending y) ≡ false → fate (Some x ∷ xs) t y ≡ fate xs t y
-fate_past x xs t y h = ap (fate xs t) (cond_false (eqb t x.tag && is_pending y) (ended x.result) y h)
+fate_past x xs t y h = ap (fate xs t) (cond-false (eqb t x.tag && is_pending y) (ended x.result) y h)
 
 -- an entry that is not pending waits for no stage
 pub fate_known : (xs : List (Option Stage)) (t : ℕ) (y : Status) → is_pending y ≡ false → fate xs t y ≡ y
