@@ -25,8 +25,8 @@ fn record_text(heap: Global, record: CycleRecord) -> Result<String, AllocError>
 fn push_step(text: &mut String, name: &str, record: CycleRecord) -> Result<(), AllocError>
     ensures { is_ok result ≡ true → string_bytes text.new ≡ string_bytes text.old ++ step_line name.now «record» }
 {
-    let cycle = record_text(text.allocator(), record)?;
-    let line = format!(in text.allocator(); "{name} {cycle}\n")?;
+    let cycle = record_text(*text.allocator(), record)?;
+    let line = format!(in *text.allocator(); "{name} {cycle}\n")?;
     text.push_str(line.as_str())
 }
 
@@ -34,8 +34,8 @@ fn push_step(text: &mut String, name: &str, record: CycleRecord) -> Result<(), A
 fn push_cycle(text: &mut String, number: usize, record: CycleRecord) -> Result<(), AllocError>
     ensures { is_ok result ≡ true → string_bytes text.new ≡ string_bytes text.old ++ cycle_line number «record» }
 {
-    let cycle = record_text(text.allocator(), record)?;
-    let line = format!(in text.allocator(); "cycle {number} {cycle}\n")?;
+    let cycle = record_text(*text.allocator(), record)?;
+    let line = format!(in *text.allocator(); "cycle {number} {cycle}\n")?;
     text.push_str(line.as_str())
 }
 
@@ -61,7 +61,7 @@ fn push_report(text: &mut String, name: &str, report: Report) -> Result<(), Allo
     let cause = cause_number(report.cause);
     let counter = report.counter;
     let count = report.count;
-    let line = format!(in text.allocator(); "{name} {cause} {counter} {count}\n")?;
+    let line = format!(in *text.allocator(); "{name} {cause} {counter} {count}\n")?;
     text.push_str(line.as_str())
 }
 

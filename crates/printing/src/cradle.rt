@@ -44,7 +44,7 @@ pub fn push_stop(
     let cause = cause_number(report.cause);
     let counter = report.counter;
     let count = report.count;
-    let line = format!(in text.allocator();
+    let line = format!(in *text.allocator();
         "{name} stop {cause} {counter} {count} cycles {cycles}\n"
     )?;
     text.push_str(line.as_str())
@@ -62,7 +62,7 @@ pub fn push_plain(text: &mut String, total: u64, agrees: bool) -> Result<(), All
     ensures { is_ok result ≡ true → string_bytes text.new ≡ string_bytes text.old ++ plain_line total agrees }
 {
     let line = if agrees {
-        format!(in text.allocator(); "plain {total} agrees\n")?
+        format!(in *text.allocator(); "plain {total} agrees\n")?
     } else {
         format!(in text.allocator(); "plain {total} differs\n")?
     };

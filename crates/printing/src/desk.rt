@@ -32,7 +32,7 @@ pub fn push_totals(
 ) -> Result<(), AllocError>
     ensures { is_ok result ≡ true → string_bytes text.new ≡ string_bytes text.old ++ totals_line reports instructions cycles }
 {
-    let line = format!(in text.allocator();
+    let line = format!(in *text.allocator();
         "reports {reports} instructions {instructions} cycles {cycles}\n"
     )?;
     text.push_str(line.as_str())

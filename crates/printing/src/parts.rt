@@ -10,7 +10,7 @@ use std::alloc::AllocError;
 pub(crate) fn push_ok(text: &mut String, name: &str) -> Result<(), AllocError>
     ensures { is_ok result ≡ true → string_bytes text.new ≡ string_bytes text.old ++ ok_line name.now }
 {
-    let line = format!(in text.allocator(); "{name} ok\n")?;
+    let line = format!(in *text.allocator(); "{name} ok\n")?;
     text.push_str(line.as_str())
 }
 
@@ -18,7 +18,7 @@ pub(crate) fn push_ok(text: &mut String, name: &str) -> Result<(), AllocError>
 pub(crate) fn push_count(text: &mut String, name: &str, count: u64) -> Result<(), AllocError>
     ensures { is_ok result ≡ true → string_bytes text.new ≡ string_bytes text.old ++ count_line name.now count }
 {
-    let line = format!(in text.allocator(); "{name} {count}\n")?;
+    let line = format!(in *text.allocator(); "{name} {count}\n")?;
     text.push_str(line.as_str())
 }
 
@@ -26,7 +26,7 @@ pub(crate) fn push_count(text: &mut String, name: &str, count: u64) -> Result<()
 pub(crate) fn push_declined(text: &mut String, name: &str, number: u32) -> Result<(), AllocError>
     ensures { is_ok result ≡ true → string_bytes text.new ≡ string_bytes text.old ++ declined_line name.now number }
 {
-    let line = format!(in text.allocator(); "{name} declined {number}\n")?;
+    let line = format!(in *text.allocator(); "{name} declined {number}\n")?;
     text.push_str(line.as_str())
 }
 
@@ -34,7 +34,7 @@ pub(crate) fn push_declined(text: &mut String, name: &str, number: u32) -> Resul
 fn push_bad_word(text: &mut String, name: &str, index: usize) -> Result<(), AllocError>
     ensures { is_ok result ≡ true → string_bytes text.new ≡ string_bytes text.old ++ bad_word_line name.now index }
 {
-    let line = format!(in text.allocator(); "{name} declined 13 {index}\n")?;
+    let line = format!(in *text.allocator(); "{name} declined 13 {index}\n")?;
     text.push_str(line.as_str())
 }
 

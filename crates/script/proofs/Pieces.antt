@@ -1,7 +1,7 @@
 -- The first line of a text, and the first word of some bytes.
 use Rattle.std.proofs.Common.{◌≡◌, ℕ, ◌-◌, ◌<◌, ◌≤◌, Bool, true, false, cond, not, List, [], ◌∷◌, length, drop, sym, refl, ap, ◌∙◌, arith, length-drop}
 use Rattle.std.proofs.lemmas.List.{nil_from_length}
-use Rattle.std.proofs.lemmas.Bool.{cond-true, cond_false, cond_both, not-true, not-false}
+use Rattle.std.proofs.lemmas.Bool.{cond-true, cond-false, cond_both, not-true, not-false}
 use Rattle.script.specs.declared.stop.Stop.TheVariants.{Newline, Blank, Word}
 use Rattle.script.specs.Tokens.{newline, blank, until, onward, in_front, pieces, not_empty, lines_of, words_in, stops}
 
@@ -35,7 +35,7 @@ behind_blank (x ∷ xs) =
 
 word_here : (x : ℕ) (xs : List ℕ) → blank x ≡ false → words_in (x ∷ xs) ≡ until blank (x ∷ xs) ∷ words_in (onward blank (x ∷ xs))
 word_here x xs e =
-    let u : until blank (x ∷ xs) ≡ x ∷ until blank xs = cond_false (blank x) [] (x ∷ until blank xs) e in
+    let u : until blank (x ∷ xs) ≡ x ∷ until blank xs = cond-false (blank x) [] (x ∷ until blank xs) e in
     ap not_empty (first_piece blank x xs)
     ∙ (ap (λ p. not_empty (p ∷ pieces blank (drop 1 (onward blank (x ∷ xs))))) u
     ∙ (ap (λ ws. (x ∷ until blank xs) ∷ ws) (behind_blank (x ∷ xs)) ∙ ap (λ p. p ∷ words_in (onward blank (x ∷ xs))) (sym u)))
@@ -49,7 +49,7 @@ first_word [] = λ h. absurd (omega arith)
 first_word (x ∷ xs) =
     cond_both (not (blank x)) (x ∷ xs) (onward (stops Word) xs) (λ ys. 0 < length ys → FirstWord ys)
     (λ e h. let b = not-true (blank x) e in
-    (word_here x xs b, let o : onward (stops Blank) (x ∷ xs) ≡ onward (stops Blank) xs = cond_false (blank x) (x ∷ xs) (onward blank xs) b in omega (arith, ap length o, onward_length (stops Blank) xs)))
+    (word_here x xs b, let o : onward (stops Blank) (x ∷ xs) ≡ onward (stops Blank) xs = cond-false (blank x) (x ∷ xs) (onward blank xs) b in omega (arith, ap length o, onward_length (stops Blank) xs)))
     (λ e. first_word xs)
 
 -- the first line, and how much is left behind it

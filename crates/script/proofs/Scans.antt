@@ -1,7 +1,7 @@
 -- Scanning a list to the first byte that stops.
 use Rattle.std.proofs.Common.{◌≡◌, ℕ, ◌+◌, ◌<◌, ◌≤◌, Bool, true, false, List, [], ◌∷◌, ◌++◌, length, get_or, take, drop, sym, refl, ap, ◌∙◌, append_assoc, append-nil, arith}
 use Rattle.std.proofs.lemmas.List.{at_drop_more, at_drop_all, take_more, drop_more, drop_all}
-use Rattle.std.proofs.lemmas.Bool.{cond-true, cond_false}
+use Rattle.std.proofs.lemmas.Bool.{cond-true, cond-false}
 use Rattle.script.specs.Tokens.{until, onward}
 
 -- the first i bytes do not stop
@@ -15,9 +15,9 @@ pub passed_more : (stop : ℕ → Bool) (xs : List ℕ) (i : ℕ) → i < length
 passed_more stop xs i h e p =
     let x = get_or xs i 0 in
     let rest = drop (i + 1) xs in (
-      p.0 ∙ (ap (λ y. take i xs ++ y) (at_drop_more (until stop) xs i 0 h ∙ cond_false (stop x) [] (x ∷ until stop rest) e)
+      p.0 ∙ (ap (λ y. take i xs ++ y) (at_drop_more (until stop) xs i 0 h ∙ cond-false (stop x) [] (x ∷ until stop rest) e)
           ∙ (sym (append_assoc (take i xs) (x ∷ []) (until stop rest)) ∙ ap (λ y. y ++ until stop rest) (sym (take_more xs i 0 h)))),
-      p.1 ∙ (at_drop_more (onward stop) xs i 0 h ∙ cond_false (stop x) (x ∷ rest) (onward stop rest) e),
+      p.1 ∙ (at_drop_more (onward stop) xs i 0 h ∙ cond-false (stop x) (x ∷ rest) (onward stop rest) e),
       omega arith,
     )
 

@@ -1,6 +1,6 @@
 -- The next line that says something, and the numbers of a line.
 use Rattle.std.proofs.Common.{◌≡◌, ℕ, ◌+◌, ◌<◌, true, false, List, [], ◌∷◌, ◌++◌, length, Some, None, Option, sym, refl, ap, ◌∙◌, append_assoc, arith}
-use Rattle.std.proofs.lemmas.Bool.{cond-true, cond_false}
+use Rattle.std.proofs.lemmas.Bool.{cond-true, cond-false}
 use Rattle.std.specs.Str.{bytes_eq}
 use Rattle.std.specs.Option.{option_map}
 use Rattle.script.specs.Tokens.{lines_of, words_in, words_of}
@@ -44,4 +44,4 @@ pub key_is : (key line word rest : List ℕ) → words_in line ≡ word ∷ word
 key_is key line word rest e k = ap (numbers_behind key) e ∙ cond-true _ _ _ k
 
 pub key_is_not : (key line word rest : List ℕ) → words_in line ≡ word ∷ words_in rest → bytes_eq word key ≡ false → numbers_behind key (words_in line) ≡ None
-key_is_not key line word rest e k = ap (numbers_behind key) e ∙ cond_false _ _ _ k
+key_is_not key line word rest e k = ap (numbers_behind key) e ∙ cond-false _ _ _ k

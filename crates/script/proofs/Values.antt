@@ -1,7 +1,7 @@
 -- The value of digits.
 use Rattle.std.proofs.Common.{◌≡◌, ℕ, ◌+◌, ◌-◌, ◌*◌, ◌^◌, ◌<◌, ◌≤◌, cond, ◌&&◌, eqb, ltb, List, [], ◌∷◌, length, get_or, take, drop, Some, None, sym, refl, ap, ◌∙◌, mul-le-mul_left, arith}
 use Rattle.std.proofs.lemmas.List.{at_drop_more, at_drop_all, take_rest}
-use Rattle.std.proofs.lemmas.Bool.{cond-true, cond_false, cond_both, le-ltb, lt-ltb, eq-eqb, and_from}
+use Rattle.std.proofs.lemmas.Bool.{cond-true, cond-false, cond_both, le-ltb, lt-ltb, eq-eqb, and_from}
 use Rattle.script.specs.Numerals.{digit_value, value_from, fitting, numeral, number_of}
 
 grows : (v base d : ℕ) → 1 ≤ base → v ≤ v * base + d
@@ -9,7 +9,7 @@ grows v base d h = let m : v * 1 ≤ v * base = mul-le-mul_left v h in omega ari
 
 -- a value above 32 bits does not come back
 pub too_large : (base v : ℕ) (bs : List ℕ) → 1 ≤ base → 2 ^ 32 ≤ v → fitting (value_from base v bs) ≡ None
-too_large base v [] h k = cond_false _ _ _ (le-ltb v (2 ^ 32) k)
+too_large base v [] h k = cond-false _ _ _ (le-ltb v (2 ^ 32) k)
 too_large base v (b ∷ bs) h k =
     cond_both (ltb (digit_value b) base) (value_from base (v * base + digit_value b) bs) None (λ o. fitting o ≡ None)
     (λ e. too_large base (v * base + digit_value b) bs h (omega (arith, grows v base (digit_value b) h))) (λ e. refl)
@@ -34,7 +34,7 @@ module _ (base v i d : ℕ) (bs : List ℕ) (at : d ≡ digit_value (get_or bs i
   pub digit_none : base ≤ d → None ≡ fitting (value_from base v (drop i bs))
   digit_none k =
       sym (ap fitting (at_drop_more (value_from base v) bs i 0 h
-      ∙ (ap (λ x. cond (ltb x base) (value_from base (v * base + x) (drop (i + 1) bs)) None) (sym at) ∙ cond_false (ltb d base) (value_from base (v * base + d) (drop (i + 1) bs)) None (le-ltb d base k))))
+      ∙ (ap (λ x. cond (ltb x base) (value_from base (v * base + x) (drop (i + 1) bs)) None) (sym at) ∙ cond-false (ltb d base) (value_from base (v * base + d) (drop (i + 1) bs)) None (le-ltb d base k))))
 
 pub digits_all : (base v i : ℕ) (bs : List ℕ) → length bs ≤ i → v < 2 ^ 32 → Some v ≡ fitting (value_from base v (drop i bs))
 digits_all base v i bs h k = sym (ap fitting (at_drop_all (value_from base v) bs i h) ∙ cond-true _ _ _ (lt-ltb v (2 ^ 32) k))
