@@ -64,7 +64,7 @@ pub fn push_plain(text: &mut String, total: u64, agrees: bool) -> Result<(), All
     let line = if agrees {
         format!(in *text.allocator(); "plain {total} agrees\n")?
     } else {
-        format!(in text.allocator(); "plain {total} differs\n")?
+        format!(in *text.allocator(); "plain {total} differs\n")?
     };
     text.push_str(line.as_str())
 }
