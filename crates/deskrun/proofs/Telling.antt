@@ -1,20 +1,20 @@
 -- The calls that were played, as the text tells them.
-use Rattle.std.proofs.Common.{◌≡◌, ℕ, ◌+◌, ◌*◌, ◌<◌, ◌≤◌, List, [], ◌∷◌, ◌++◌, length, take, drop, IfOk, None, Ok, Err, Option, Result, sym, refl, ap, ◌∙◌, subst, append-nil, arith, length-append}
+use Rattle.std.proofs.Common.{◌≡◌, ℕ, ◌*◌, List, [], ◌∷◌, ◌++◌, length, take, drop, IfOk, Ok, Err, Option, Result, sym, refl, ap, ◌∙◌, subst, append-nil, arith, length-append}
 use Rattle.std.proofs.lemmas.List.{take_at, drop_all}
 use Rattle.isa.specs.declared.refusal.Refusal.{Refusal}
 use Rattle.recovery.specs.declared.Timing.{Timing}
 use Rattle.pickcore.specs.declared.record.CycleRecord.{CycleRecord}
-use Rattle.pickcore.specs.Calls.{Machine, unloaded, load_refusal}
+use Rattle.pickcore.specs.Calls.{Machine, unloaded}
 use Rattle.precision.specs.Life.{Event}
 use Rattle.jobs.specs.declared.call.Call.{Call}
 use Rattle.jobs.specs.declared.call.Answer.{Answer}
 use Rattle.jobs.specs.declared.call.Setup.{Setup}
 use Rattle.jobs.specs.declared.call.Totals.{Totals}
 use Rattle.jobs.specs.Setup.{setup_for}
-use Rattle.jobs.specs.Play.{Outcome, Played, nothing, further}
+use Rattle.jobs.specs.Play.{Played, nothing, further}
 use Rattle.jobs.specs.Precision.{loads_to, Precisely}
 use Rattle.printing.specs.Lines.{load_line, totals_line}
-use Rattle.deskrun.specs.Desk.{cycles_asked, copies_asked, answers_text, Told, Tells, TellsOn}
+use Rattle.deskrun.specs.Desk.{cycles_asked, copies_asked, answers_text, Tells, TellsOn}
 
 pub made_so : {X Y : Type 0} (r : Result X Y) (P Q : X → Type 0) → ((x : X) → P x → Q x) → IfOk r P → IfOk r Q
 made_so (Ok x) P Q f h = f x h

@@ -1,5 +1,5 @@
 -- The plain machine's steps, counted.
-use Rattle.std.proofs.Common.{◌≡◌, ℕ, zero, suc, ◌+◌, ◌-◌, ◌<◌, ◌≤◌, List, Ok, Err, Result, sym, refl, ap, ◌∙◌, arith}
+use Rattle.std.proofs.Common.{◌≡◌, ℕ, suc, ◌+◌, ◌-◌, ◌<◌, List, Ok, Err, Result, sym, ap, ◌∙◌, arith}
 use Rattle.isa.specs.declared.fault.Fault.{Fault}
 use Rattle.isa.specs.Plain.{Plain, Outcome, one_more, go_on, stepped, ran}
 use Rattle.isa.specs.Table.{verdict, value_or}

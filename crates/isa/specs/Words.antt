@@ -1,5 +1,5 @@
 -- Instruction words: the kind in bits 31 to 28, d in 27 to 24, a in 23 to 20, b in 19 to 16, n in 15 to 0.
-use Rattle.std.specs.Prelude.{ℕ, ◌+◌, ◌*◌, ◌/◌, ◌%◌, ◌^◌, Bool, true, false, cond, ◌&&◌, Ok, Err, Result, ◌==◌, nat_le, nat_lt}
+use Rattle.std.specs.Prelude.{ℕ, ◌+◌, ◌*◌, ◌/◌, ◌%◌, ◌^◌, Bool, cond, ◌&&◌, Ok, Err, Result, ◌==◌, nat_le, nat_lt}
 use Rattle.isa.specs.declared.words.Kind.{Kind}
 use Rattle.isa.specs.declared.words.Kind.TheVariants.{Stop, Set, Add, Subtract, ExclusiveOr, Multiply, Divide, CheckedAdd, Load, Store, BranchEqual, BranchUnequal}
 use Rattle.isa.specs.declared.refusal.Refusal.{Refusal}

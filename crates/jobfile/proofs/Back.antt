@@ -1,12 +1,11 @@
 -- The bytes of a job read back as that job.
-use Rattle.std.proofs.Common.{◌≡◌, ℕ, ◌+◌, ◌*◌, ◌^◌, ◌<◌, ◌≤◌, Bool, true, false, cond, ◌&&◌, eqb, leb, List, [], ◌∷◌, ◌++◌, length, take, drop, Some, None, Option, sym, refl, ap, ◌∙◌, subst, arith, length-append}
+use Rattle.std.proofs.Common.{◌≡◌, ℕ, ◌+◌, ◌*◌, ◌^◌, ◌<◌, true, ◌&&◌, leb, List, [], ◌∷◌, ◌++◌, length, take, drop, Some, refl, ap, ◌∙◌, arith, length-append}
 use lib.Seq.{take-length, drop-length}
 use Rattle.std.proofs.lemmas.List.{take-append-le, drop-append-le}
 use Rattle.std.proofs.lemmas.Bool.{and_parts, and_from, leb-true, le-leb, eq-eqb, cond-true}
 use Rattle.jobfile.specs.declared.scheme.Scheme.{Scheme}
 use Rattle.jobfile.specs.declared.scheme.Scheme.TheVariants.{ReorderBuffer, BypassBuffer, HistoryBuffer, FutureFile}
-use Rattle.jobfile.specs.Bytes.{words_of, bytes_of_words}
-use Rattle.jobfile.specs.Jobs.{Order, Words32, scheme_number, scheme_at, well_formed, with_scheme, order_of, job_in, read_job, job_words, job_bytes, fits_file, WriteThenRead}
+use Rattle.jobfile.specs.Jobs.{Order, Words32, scheme_number, scheme_at, well_formed, with_scheme, job_in, read_job, job_words, job_bytes, fits_file, WriteThenRead}
 use Rattle.jobfile.proofs.There.{length_bytes, words_back}
 
 scheme_back : (s : Scheme) → scheme_at (scheme_number s) ≡ Some s

@@ -1,5 +1,5 @@
 -- A job, and the bytes that hold it.
-use Rattle.std.specs.Prelude.{◌≡◌, ℕ, ◌+◌, ◌*◌, ◌^◌, ◌<◌, Bool, true, false, cond, ◌&&◌, List, [], ◌∷◌, ◌++◌, length, take, drop, Some, None, Option, ◌==◌, nat_le, slice_index}
+use Rattle.std.specs.Prelude.{◌≡◌, ℕ, ◌+◌, ◌*◌, ◌^◌, ◌<◌, Bool, true, cond, ◌&&◌, List, [], ◌∷◌, ◌++◌, length, take, drop, Some, None, Option, ◌==◌, nat_le, slice_index}
 use Rattle.jobfile.specs.declared.scheme.Scheme.{Scheme}
 use Rattle.jobfile.specs.declared.scheme.Scheme.TheVariants.{ReorderBuffer, BypassBuffer, HistoryBuffer, FutureFile}
 use Rattle.jobfile.specs.Bytes.{words_of, bytes_of_words}

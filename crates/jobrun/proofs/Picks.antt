@@ -1,5 +1,5 @@
 -- A job on the core: loaded, resumed at 0, and run.
-use Rattle.std.proofs.Common.{◌≡◌, ℕ, ◌-◌, ◌≤◌, Bool, true, false, cond, not, ◌&&◌, eqb, leb, List, [], ◌∷◌, ◌++◌, length, take, Some, None, Ok, Err, Option, Result, sym, refl, ap, ◌∙◌, subst, arith}
+use Rattle.std.proofs.Common.{◌≡◌, ℕ, ◌-◌, cond, not, ◌&&◌, eqb, List, ◌++◌, length, take, Some, None, Ok, Err, Option, Result, sym, refl, ap, ◌∙◌, subst, arith}
 use lib.Seq.{take-length}
 use Rattle.std.proofs.lemmas.List.{take-append-le}
 use Rattle.std.proofs.lemmas.Bool.{eq-eqb}
@@ -10,7 +10,7 @@ use Rattle.pickcore.specs.declared.record.CycleRecord.{CycleRecord}
 use Rattle.pickcore.specs.Calls.{Machine, accepted, unless, unloaded, loaded, load_refusal, load_leaves, resume_leaves, step_refusal, Ran, Runs, RunsBy, report_answer}
 use Rattle.jobfile.specs.Jobs.{Order}
 use Rattle.jobfile.specs.Lines.{declined_line}
-use Rattle.jobrun.specs.Runs.{refused, started, RunOf, PrintsBy, cycle_lines, last_line}
+use Rattle.jobrun.specs.Runs.{refused, started, PrintsBy, cycle_lines, last_line}
 
 module _ (o : Order) where
   taken : Ok tt ≡ accepted (refused o) → refused o ≡ None

@@ -1,20 +1,20 @@
 -- What the answer of a call says of the lists that it filled and of its events.
-use Rattle.std.proofs.Common.{◌≡◌, ℕ, suc, ◌+◌, ◌<◌, ◌≤◌, Bool, true, false, cond, not, ◌&&◌, List, [], ◌∷◌, ◌++◌, length, take, Some, None, Ok, Err, vec_items, Option, Result, sym, refl, ap, ◌∙◌, subst, arith, length-append}
+use Rattle.std.proofs.Common.{◌≡◌, ℕ, ◌+◌, Bool, true, false, cond, not, ◌&&◌, List, [], ◌∷◌, ◌++◌, length, take, Some, None, Ok, Err, vec_items, Option, Result, sym, refl, ap, ◌∙◌, subst, arith, length-append}
 use Rattle.std.proofs.lemmas.List.{length-take-le}
 use Rattle.isa.specs.declared.refusal.Refusal.{Refusal}
 use Rattle.isa.specs.declared.refusal.Refusal.TheVariants as refusal
 use Rattle.recovery.specs.declared.Timing.{Timing}
 use Rattle.pickcore.specs.declared.record.CycleRecord.{CycleRecord}
 use Rattle.images.specs.Image.{Snapshot, read_words}
-use Rattle.pickcore.specs.Calls.{Machine, step_refusal, Step, Steps, Rows, none, more, Ran, step_by, report_answer, stopped_refusal, amend_refusal, resume_refusal}
+use Rattle.pickcore.specs.Calls.{Machine, step_refusal, Step, Steps, Rows, none, more, step_by, report_answer, stopped_refusal, amend_refusal, resume_refusal}
 use Rattle.pickcore.proofs.Sounds.{steppable}
-use Rattle.precision.specs.Life.{Deed, step, cut, amend, take_up, resume, other, Event}
+use Rattle.precision.specs.Life.{Deed, cut, amend, resume, other, Event}
 use Rattle.precision.specs.Precise.{reported}
 use Rattle.jobs.specs.declared.call.Call.{Call}
 use Rattle.jobs.specs.declared.call.Call.TheVariants as call
 use Rattle.jobs.specs.declared.call.Answer.{Answer}
 use Rattle.jobs.specs.declared.call.Answer.TheVariants as answer
-use Rattle.jobs.specs.Play.{Outcome, event, simple, step_deed, step_outcome, row_events, RunBy, deed_unless, taking, Made, records_in, copies_in, steps_in, is_step, counted, reports_of, count_of, reports_in, instructions_in, cycles_in}
+use Rattle.jobs.specs.Play.{Outcome, simple, step_deed, step_outcome, row_events, RunBy, deed_unless, taking, Made, records_in, copies_in, steps_in, is_step, counted, reports_of, count_of, reports_in, instructions_in, cycles_in}
 
 pub reports_append : (ds es : List Event) → reports_in (ds ++ es) ≡ reports_in ds + reports_in es
 reports_append [] es = omega arith

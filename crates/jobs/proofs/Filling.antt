@@ -1,14 +1,14 @@
 -- What is written into a part of a list.
-use Rattle.std.proofs.Common.{◌≡◌, ℕ, ◌+◌, ◌-◌, ◌<◌, ◌≤◌, min, Bool, true, false, leb, List, [], ◌∷◌, ◌++◌, length, take, drop, Some, None, Ok, Err, Option, Result, sym, refl, ap, ◌∙◌, subst, append_assoc, add-zero, arith, length-take}
+use Rattle.std.proofs.Common.{◌≡◌, ℕ, ◌+◌, ◌-◌, ◌≤◌, min, Bool, true, false, leb, List, [], ◌∷◌, ◌++◌, length, take, drop, Some, None, Err, Option, Result, sym, refl, ap, ◌∙◌, subst, append_assoc, add-zero, arith}
 use Rattle.std.proofs.lemmas.List.{take_all, drop_all, length-take-le, take-append-drop, drop-append-le, drop-drop}
 use Rattle.std.proofs.lemmas.Bool.{leb-true, leb-false}
 use Rattle.isa.specs.declared.refusal.Refusal.{Refusal}
 use Rattle.recovery.specs.declared.Timing.{Timing}
 use Rattle.pickcore.specs.declared.record.CycleRecord.{CycleRecord}
 use Rattle.pickcore.specs.Calls.{Machine, step_refusal, Ran, RunsBy, Runs}
-use Rattle.precision.specs.Life.{other, Event}
+use Rattle.precision.specs.Life.{other}
 use Rattle.jobs.specs.declared.call.Answer.TheVariants as answer
-use Rattle.jobs.specs.Play.{Outcome, event, simple, row_events, RunBy, RanInto, Filled}
+use Rattle.jobs.specs.Play.{event, simple, row_events, RunBy, RanInto, Filled}
 
 -- the lesser of a limit and what there is
 pub take_lesser : {X : Type 0} (xs : List X) (n m : ℕ) → m ≡ min n (length xs) → take m xs ≡ take n xs

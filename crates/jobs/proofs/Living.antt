@@ -6,8 +6,8 @@ use Rattle.isa.specs.declared.refusal.Refusal.TheVariants as refusal
 use Rattle.recovery.specs.declared.Timing.{Timing}
 use Rattle.images.specs.Image.{Snapshot, read_words}
 use Rattle.pickcore.specs.declared.record.CycleRecord.{CycleRecord}
-use Rattle.pickcore.specs.Calls.{Machine, unless, accepted, load_refusal, loaded, step_refusal, Step, Steps, step_by, Rows, none, more, stopped_refusal, cut_leaves, amend_refusal, amend_leaves, take_up_refusal, take_up_leaves, resume_refusal, resume_leaves}
-use Rattle.precision.specs.Life.{Deed, step, cut, amend, take_up, resume, other, Event, asked, requested, step_declined, cut_declined, amend_declined, take_up_declined, resume_declined, Happens, Life, start, next}
+use Rattle.pickcore.specs.Calls.{Machine, unless, accepted, load_refusal, loaded, step_refusal, Step, Steps, step_by, Rows, none, more, stopped_refusal, cut_leaves, amend_refusal, amend_leaves, take_up_leaves, resume_refusal, resume_leaves}
+use Rattle.precision.specs.Life.{Deed, step, cut, amend, resume, other, Event, asked, requested, step_declined, cut_declined, amend_declined, take_up_declined, resume_declined, Happens, Life, start, next}
 use Rattle.precision.proofs.Lives.{lives_are_precise}
 use Rattle.jobs.specs.declared.call.Call.{Call}
 use Rattle.jobs.specs.declared.call.Call.TheVariants as call
@@ -15,7 +15,7 @@ use Rattle.jobs.specs.declared.call.Answer.{Answer}
 use Rattle.jobs.specs.declared.call.Answer.TheVariants as answer
 use Rattle.jobs.specs.declared.call.Setup.{Setup}
 use Rattle.jobs.specs.declared.call.Totals.{Totals}
-use Rattle.jobs.specs.Play.{Outcome, event, simple, deed_unless, step_deed, step_outcome, row_events, RunBy, taking, take_up_deed, Made, Played, nothing, further, Plays}
+use Rattle.jobs.specs.Play.{Outcome, event, simple, deed_unless, step_deed, row_events, RunBy, taking, Made, Played, nothing, further, Plays}
 use Rattle.jobs.specs.Precision.{loads_to, Precisely, ListsArePrecise}
 
 module _ (k : Timing) (program : List ℕ) where

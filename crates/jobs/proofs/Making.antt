@@ -1,15 +1,15 @@
 -- One call of a list, by what its own contract says.
-use Rattle.std.proofs.Common.{◌≡◌, ℕ, ◌+◌, ◌-◌, List, [], ◌∷◌, length, take, drop, Result, sym, refl, ap, ◌∙◌, subst}
+use Rattle.std.proofs.Common.{◌≡◌, ℕ, ◌-◌, List, [], ◌∷◌, length, take, drop, Result, sym, refl, ap, subst}
 use Rattle.isa.specs.declared.refusal.Refusal.{Refusal}
 use Rattle.recovery.specs.declared.Timing.{Timing}
 use Rattle.pickcore.specs.declared.record.CycleRecord.{CycleRecord}
-use Rattle.pickcore.specs.Calls.{Machine, Step, Steps, step_refusal}
+use Rattle.pickcore.specs.Calls.{Machine, Steps}
 use Rattle.precision.specs.Life.{Deed, other}
 use Rattle.jobs.specs.declared.call.Call.{Call}
 use Rattle.jobs.specs.declared.call.Call.TheVariants as call
 use Rattle.jobs.specs.declared.call.Answer.{Answer}
 use Rattle.jobs.specs.declared.call.Answer.TheVariants as answer
-use Rattle.jobs.specs.Play.{Outcome, event, simple, step_outcome, Made, Filled, RanInto, MadeInto}
+use Rattle.jobs.specs.Play.{event, simple, step_outcome, Made, Filled, RanInto, MadeInto}
 use Rattle.jobs.proofs.Filling.{filled_none}
 
 module _ (k : Timing) (program last : List ℕ) (records : List CycleRecord) (used : ℕ) (copies : List ℕ) (copied : ℕ) (m : Machine) (ws : List ℕ) (c : Call) where

@@ -1,12 +1,11 @@
 -- A job that moves: what the spare does, and the plain machine that goes on beside it.
-use Rattle.std.proofs.Common.{◌≡◌, ℕ, zero, suc, ◌+◌, ◌<◌, ◌≤◌, min, Bool, true, false, cond, not, ◌&&◌, eqb, leb, List, [], ◌∷◌, ◌++◌, length, take, replicate, Some, None, Ok, Err, Option, Result, sym, refl, ap, ◌∙◌, subst, add-zero, add-suc, arith}
+use Rattle.std.proofs.Common.{◌≡◌, ℕ, zero, suc, ◌+◌, ◌≤◌, min, Bool, true, false, cond, not, ◌&&◌, eqb, leb, List, [], ◌∷◌, ◌++◌, length, replicate, Some, None, Ok, Err, Option, Result, sym, refl, ap, ◌∙◌, subst, add-zero, add-suc, arith}
 use Rattle.std.proofs.lemmas.Bool.{and_parts, leb-true, eq-eqb, le-leb}
 use Rattle.std.specs.Result.{result_err}
-use Rattle.isa.specs.declared.fault.Fault.{Fault}
 use Rattle.isa.specs.declared.refusal.Refusal.{Refusal}
 use Rattle.isa.specs.declared.refusal.Refusal.TheVariants as refusal
 use Rattle.isa.specs.Table.{Instr, fetched, value_or}
-use Rattle.isa.specs.Plain.{Plain, executed, at_zero}
+use Rattle.isa.specs.Plain.{Plain}
 use Rattle.recovery.specs.declared.Timing.{Timing}
 use Rattle.images.specs.Image.{Snapshot, image_words, read_words}
 use Rattle.pickcore.specs.declared.record.CycleRecord.{CycleRecord}
@@ -15,16 +14,15 @@ use Rattle.pickcore.specs.Limits.{stretch, delays_fit, one_to_sixteen, program_f
 use Rattle.pickcore.specs.Calls.{Machine, unless, accepted, load_refusal, load_leaves, loaded, step_refusal, Rows, none, more, Ran, RunsBy, Runs, stopped_refusal, cut_off, cut_leaves, take_up_refusal, take_up_by, take_up_leaves, taken_up, resume_refusal, resume_leaves, resumed, report_answer, registers_answer, looked, imaged}
 use Rattle.precision.specs.Steps.{steps, one_more}
 use Rattle.precision.specs.Fit.{longest_of}
-use Rattle.precision.specs.Life.{Deed, step, cut, take_up, resume, Event, Happens, Life, start, next}
-use Rattle.precision.specs.Precise.{reported, followed, plain_beside, Agrees, Precise}
+use Rattle.precision.specs.Life.{cut, take_up, resume, Event, Life, start, next}
+use Rattle.precision.specs.Precise.{reported, plain_beside, Agrees, Precise}
 use Rattle.precision.proofs.Lives.{lives_are_precise}
 use Rattle.jobs.specs.declared.call.Setup.{Setup}
-use Rattle.jobs.specs.declared.moved.Moved.{Moved}
 use Rattle.jobs.specs.Setup.{setup_for}
 use Rattle.jobs.specs.Play.{event, deed_unless, row_events, image_of}
 use Rattle.jobs.specs.Precision.{loads_to}
-use Rattle.jobs.specs.Move.{move_refusal, taken_over, Goes_on, Moves}
-use Rattle.jobs.proofs.Counting.{step_ran, rows_ran}
+use Rattle.jobs.specs.Move.{move_refusal, taken_over, Moves}
+use Rattle.jobs.proofs.Counting.{step_ran}
 use Rattle.jobs.proofs.Living.{joined, rows_life, cut_happens, accepted_none}
 
 -- some steps, and then some more

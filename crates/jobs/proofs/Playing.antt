@@ -1,6 +1,6 @@
 -- A list of calls, one call more at a time.
-use Rattle.std.proofs.Common.{◌≡◌, ℕ, suc, ◌+◌, ◌-◌, ◌*◌, ◌^◌, ◌<◌, ◌≤◌, Bool, true, false, cond, not, ◌&&◌, List, [], ◌∷◌, ◌++◌, length, get_or, take, drop, set, is_err, Some, None, Ok, Err, Option, Result, sym, refl, ap, ◌∙◌, subst, append_assoc, arith, length-append, length-drop}
-use Rattle.std.proofs.lemmas.List.{take_at, drop_at, drop-drop, drop_more, set-append_right, take_more}
+use Rattle.std.proofs.Common.{◌≡◌, ℕ, ◌+◌, ◌-◌, ◌*◌, ◌^◌, ◌<◌, ◌≤◌, Bool, true, false, cond, List, [], ◌∷◌, ◌++◌, length, get_or, take, drop, set, is_err, Some, None, Ok, Err, Option, Result, sym, refl, ap, ◌∙◌, subst, append_assoc, arith, length-append, length-drop}
+use Rattle.std.proofs.lemmas.List.{take_at, drop_at, drop-drop, drop_more, set-append_right}
 use Rattle.isa.specs.declared.refusal.Refusal.{Refusal}
 use Rattle.isa.specs.declared.refusal.Refusal.TheVariants as refusal
 use Rattle.recovery.specs.declared.Timing.{Timing}
@@ -8,13 +8,12 @@ use Rattle.pickcore.specs.declared.record.CycleRecord.{CycleRecord}
 use Rattle.pickcore.specs.declared.record.Report.{Report}
 use Rattle.pickcore.specs.Calls.{Machine, report_answer}
 use Rattle.pickcore.specs.Sound.{Sound}
-use Rattle.precision.specs.Life.{Event}
 use Rattle.precision.specs.Precise.{reported}
 use Rattle.jobs.specs.declared.call.Call.{Call}
 use Rattle.jobs.specs.declared.call.Answer.{Answer}
 use Rattle.jobs.specs.declared.call.Totals.{Totals}
-use Rattle.jobs.specs.Play.{Outcome, Made, Filled, MadeInto, Played, nothing, further, Plays, or_image, noted, counted, reports_of, count_of, no_totals, records_in, copies_in, steps_in, reports_in, instructions_in, cycles_in}
-use Rattle.jobs.proofs.Counting.{Counted, made_counted, counted_reports, counted_instructions, reports_append, instructions_append, cycles_append}
+use Rattle.jobs.specs.Play.{Made, Filled, MadeInto, Played, nothing, further, Plays, or_image, noted, counted, reports_of, count_of, no_totals, records_in, copies_in, steps_in, reports_in, instructions_in, cycles_in}
+use Rattle.jobs.proofs.Counting.{made_counted, counted_reports, counted_instructions, reports_append, instructions_append, cycles_append}
 
 -- a list of calls up to the one with the index i
 pub record Going (k : Timing) (program : List ℕ) (calls : List Call) (answers : List Answer) (records : List CycleRecord) (copies : List ℕ) (m : Machine) (ws : List ℕ)

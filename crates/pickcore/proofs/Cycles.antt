@@ -11,7 +11,7 @@ use Rattle.pickcore.specs.declared.record.Hold.TheVariants as hold
 use Rattle.pickcore.specs.declared.record.Ending.{Ending}
 use Rattle.pickcore.specs.declared.record.Ending.TheVariants.{Stopped}
 use Rattle.pickcore.specs.declared.stages.Stage.{Stage}
-use Rattle.pickcore.specs.Cycle.{Setting, Pipe, Move, Turn, beside, arrived, moved, settled, emptied, stops, drains, dispatch, front, retiring, cycle, retires, counter_of, flight_at_admission, issues, Chosen}
+use Rattle.pickcore.specs.Cycle.{Setting, Pipe, Move, Turn, beside, arrived, moved, emptied, drains, dispatch, front, retiring, cycle, retires, counter_of, flight_at_admission, issues, Chosen}
 use Rattle.pickcore.proofs.Issue.{unchosen, drained_none}
 
 -- a retirement that settles nothing leaves the scheme as it is

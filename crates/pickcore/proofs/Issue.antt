@@ -1,5 +1,5 @@
 -- The instruction at a counter, and what each way of issuing it comes to.
-use Rattle.std.proofs.Common.{◌≡◌, ℕ, ◌<◌, ◌≤◌, Bool, true, false, cond, ltb, List, [], ◌∷◌, length, get_or, Some, None, Ok, Err, Option, Result, sym, refl, ap, ◌∙◌, subst, arith}
+use Rattle.std.proofs.Common.{◌≡◌, ℕ, ◌<◌, ◌≤◌, false, cond, List, length, get_or, Some, None, Ok, Err, Option, Result, sym, refl, ap, ◌∙◌, arith}
 use Rattle.std.proofs.lemmas.Bool.{lt-ltb, le-ltb}
 use Rattle.isa.specs.declared.fault.Fault.{Fault}
 use Rattle.isa.specs.declared.fault.Fault.TheVariants as fault
@@ -12,7 +12,7 @@ use Rattle.isa.specs.declared.words.Kind.TheVariants.{Stop, Set, Add, Subtract, 
 use Rattle.isa.specs.Words.{decoded}
 use Rattle.isa.specs.Table.{Instr, halt, store, work, jump, fetched, instruction, row, unit_of, sources_of, computes, target}
 use Rattle.isa.specs.Plain.{reads}
-use Rattle.recovery.specs.Meaning.{Meaning, Entry, has_tag, oldest_answer}
+use Rattle.recovery.specs.Meaning.{Entry, oldest_answer}
 use Rattle.pickcore.specs.declared.record.Hold.{Hold}
 use Rattle.pickcore.specs.declared.record.Hold.TheVariants as hold
 use Rattle.pickcore.specs.declared.record.Ending.{Ending}

@@ -1,10 +1,10 @@
 -- With nothing in flight, the words that look answers are the settled ones.
-use Rattle.std.proofs.Common.{◌≡◌, ℕ, ◌<◌, Bool, true, false, cond, ltb, List, [], ◌∷◌, map, length, get_or, is_some, Some, None, Option, sym, refl, ap, ◌∙◌}
+use Rattle.std.proofs.Common.{◌≡◌, ℕ, ◌<◌, true, false, cond, [], length, get_or, Some, None, sym, ap, ◌∙◌}
 use Rattle.std.proofs.lemmas.List.FromFn.{fill_by_all}
 use Rattle.std.proofs.lemmas.Bool.{lt-ltb}
 use Rattle.recovery.specs.declared.Timing.{Timing}
 use Rattle.recovery.specs.declared.Timing.TheVariants.{Early, Late}
-use Rattle.recovery.specs.Meaning.{Meaning, Entry, awaited_source, word_in, youngest, held_up, look_answer}
+use Rattle.recovery.specs.Meaning.{Meaning, look_answer}
 use Rattle.pickcore.specs.Calls.{word_or_0, looked}
 
 pub look_settled : (k : Timing) (m : Meaning) (r : ℕ) → m.flight ≡ [] → r < 16 → look_answer k m r ≡ Some (get_or m.settled r 0)

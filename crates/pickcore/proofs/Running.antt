@@ -1,10 +1,9 @@
 -- A run from its steps.
-use Rattle.std.proofs.Common.{◌≡◌, ℕ, ◌+◌, ◌<◌, ◌≤◌, List, [], ◌∷◌, ◌++◌, length, take, drop, set, Some, None, Ok, Err, Option, Result, sym, refl, ap, ◌∙◌, subst, arith, length-set}
+use Rattle.std.proofs.Common.{◌≡◌, ℕ, ◌+◌, ◌<◌, ◌≤◌, List, length, take, drop, set, Ok, sym, refl, ap, ◌∙◌, subst, arith, length-set}
 use Rattle.std.proofs.lemmas.List.{take_more_set, drop-set-lt, drop-drop}
-use Rattle.isa.specs.declared.refusal.Refusal.{Refusal}
 use Rattle.recovery.specs.declared.Timing.{Timing}
 use Rattle.pickcore.specs.declared.record.CycleRecord.{CycleRecord}
-use Rattle.pickcore.specs.Calls.{Machine, Step, step_refusal, step_turn, turned, step_by, Steps, Rows, none, more, Ran, RunsBy}
+use Rattle.pickcore.specs.Calls.{Machine, Steps, Rows, none, more}
 use Rattle.pickcore.specs.Sound.{Sound}
 use Rattle.pickcore.proofs.Sounds.{steps_sound}
 

@@ -1,5 +1,5 @@
 -- A list whose first element goes to the end and is overwritten there.
-use Rattle.std.proofs.Common.{◌≡◌, ℕ, suc, ◌+◌, ◌≤◌, List, [], ◌∷◌, ◌++◌, length, take, drop, set, sym, refl, ap, ◌∙◌, subst, arith}
+use Rattle.std.proofs.Common.{◌≡◌, ℕ, suc, List, [], ◌∷◌, ◌++◌, length, take, drop, set, refl, ap, ◌∙◌, subst, arith}
 
 set_end : {X : Type 0} (l : List X) (x y : X) → set (l ++ (x ∷ [])) (length l) y ≡ l ++ (y ∷ [])
 set_end [] x y = refl

@@ -1,6 +1,5 @@
 -- Every call keeps a core sound.
-use Rattle.std.proofs.Common.{◌≡◌, ℕ, suc, ◌+◌, ◌-◌, ◌%◌, ◌^◌, ◌<◌, ◌≤◌, Bool, true, false, cond, not, ◌&&◌, eqb, ltb, leb, ◌⊎◌, List, [], ◌∷◌, ◌++◌, length, get_or, drop, set, replicate, Some, None, Ok, Err, Option, Result, sym, refl, ap, ◌∙◌, subst, inl, inr, ⊎_elim, arith, lit≤, length-append, length-set}
-use lib.ListN.{length-replicate}
+use Rattle.std.proofs.Common.{◌≡◌, ℕ, suc, ◌+◌, ◌-◌, ◌<◌, ◌≤◌, Bool, true, false, cond, not, ◌&&◌, eqb, ltb, leb, List, [], ◌∷◌, ◌++◌, length, get_or, drop, set, replicate, Some, None, Ok, Err, Option, sym, refl, ap, ◌∙◌, subst, arith, lit≤, length-append, length-set}
 use Rattle.std.proofs.lemmas.Bool.{leb-false, ltb-true, and_parts, eqb-true}
 use Rattle.isa.specs.declared.fault.Fault.{Fault}
 use Rattle.isa.specs.declared.fault.Fault.TheVariants as fault
@@ -9,7 +8,7 @@ use Rattle.isa.specs.declared.fault.Cause.TheVariants as cause
 use Rattle.isa.specs.declared.refusal.Refusal.{Refusal}
 use Rattle.isa.specs.declared.words.Kind.{Kind}
 use Rattle.isa.specs.declared.words.Kind.TheVariants as kind
-use Rattle.isa.specs.Numbers.{cause_number, cause_or_0, fault_number}
+use Rattle.isa.specs.Numbers.{cause_or_0, fault_number}
 use Rattle.isa.specs.declared.refusal.Refusal.TheVariants as refusal
 use Rattle.isa.specs.Words.{decoded, legal, kind_of, kind_bits, d_bits, a_bits, b_bits, n_bits}
 use Rattle.isa.specs.Table.{Instr, halt, store, work, jump, fetched, instruction, row, target, branches, first, second}
@@ -18,7 +17,7 @@ use Rattle.recovery.specs.declared.Status.TheVariants.{Pending, Done, Faulted}
 use Rattle.recovery.specs.declared.Timing.{Timing}
 use Rattle.recovery.specs.declared.Retired.{Retired}
 use Rattle.recovery.specs.declared.Retired.TheVariants as retired
-use Rattle.recovery.specs.Meaning.{Meaning, Entry, has_tag, is_pending, delivered, ended, put, new_entry, retire_answer, retire_flight, retire_status, retire_leaves, settle_oldest, settle}
+use Rattle.recovery.specs.Meaning.{Meaning, Entry, has_tag, is_pending, ended, put, new_entry, retire_answer, retire_flight, retire_status, retire_leaves, settle_oldest, settle}
 use Rattle.pickcore.specs.declared.record.Ending.{Ending}
 use Rattle.pickcore.specs.declared.record.Ending.TheVariants.{Issued, Stored, Held, Stopped}
 use Rattle.pickcore.specs.declared.stages.Stage.{Stage}

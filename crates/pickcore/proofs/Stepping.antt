@@ -1,5 +1,5 @@
 -- A step from its parts.
-use Rattle.std.proofs.Common.{◌≡◌, ℕ, ◌+◌, ◌*◌, ◌<◌, ◌≤◌, Bool, true, false, List, [], ◌∷◌, length, Some, None, Ok, Err, Option, sym, refl, ap, ◌∙◌, subst, arith}
+use Rattle.std.proofs.Common.{◌≡◌, ℕ, List, length, Some, None, Ok, Err, Option, refl, ap, ◌∙◌}
 use Rattle.isa.specs.declared.refusal.Refusal.{Refusal}
 use Rattle.recovery.specs.declared.Timing.{Timing}
 use Rattle.pickcore.specs.declared.record.CycleRecord.{CycleRecord}
@@ -7,8 +7,8 @@ use Rattle.isa.specs.declared.fault.Cause.{Cause}
 use Rattle.pickcore.specs.declared.record.Ending.{Ending}
 use Rattle.pickcore.specs.declared.record.Ending.TheVariants.{Issued, Stored, Held, Stopped}
 use Rattle.pickcore.specs.Record.{record_of}
-use Rattle.pickcore.specs.Cycle.{Pipe, Turn, cycle, retires, flight_at_admission, Chosen}
-use Rattle.pickcore.specs.Calls.{Machine, goes_on, after_ending, step_refusal, Step, step_turn, turned, step_by, Steps}
+use Rattle.pickcore.specs.Cycle.{Pipe, cycle, retires, flight_at_admission, Chosen}
+use Rattle.pickcore.specs.Calls.{Machine, goes_on, after_ending, step_refusal, turned, step_by, Steps}
 use Rattle.pickcore.specs.Model.{setting}
 use Rattle.pickcore.proofs.Tags.{fresh_tag, freely}
 

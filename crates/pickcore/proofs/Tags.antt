@@ -1,14 +1,13 @@
 -- A tag that no entry in flight has; and a cycle that admits nothing does not depend on the tag.
-use Rattle.std.proofs.Common.{◌≡◌, ℕ, ◌+◌, ◌<◌, ◌≤◌, max, Bool, true, false, cond, ◌||◌, eqb, ◌⊎◌, List, [], ◌∷◌, ◌++◌, get_or, Some, None, Option, Result, sym, refl, ap, ◌∙◌, subst, inl, inr, ⊎_elim, arith}
+use Rattle.std.proofs.Common.{◌≡◌, ℕ, ◌+◌, ◌<◌, max, Bool, true, false, cond, ◌||◌, List, [], ◌∷◌, ◌++◌, Some, None, Option, Result, sym, refl, ap, ◌∙◌, ⊎_elim, arith}
 use Rattle.std.proofs.lemmas.Bool.{ne_eqb, cases_Bool}
 use Rattle.isa.specs.declared.fault.Fault.{Fault}
 use Rattle.isa.specs.Table.{Instr, halt, store, work, jump}
 use Rattle.recovery.specs.declared.Admitted.TheVariants.{Awaited, Full, Tagged}
 use Rattle.recovery.specs.declared.Retired.{Retired}
 use Rattle.recovery.specs.declared.Retired.TheVariants as retired
-use Rattle.recovery.specs.Meaning.{Meaning, Entry, has_tag, awaited_destination, full, new_entry, with_flight, admit_answer, admit_leaves, retire_answer}
+use Rattle.recovery.specs.Meaning.{Entry, has_tag, awaited_destination, full, new_entry, with_flight, retire_answer}
 use Rattle.pickcore.specs.declared.stages.Stage.{Stage}
-use Rattle.pickcore.specs.declared.record.Ending.{Ending}
 use Rattle.pickcore.specs.Cycle.{Setting, Pipe, Move, Turn, beside, arrived, moved, settled, entering, working, jumping, admitted, admits, looks, dispatch, front, retiring, cycle, flight_at_admission, issues, Chosen}
 
 abbrev top : List Entry → ℕ

@@ -1,11 +1,10 @@
 -- Stages and the pending entries that they belong to, through deliveries, retirements and admissions.
-use Rattle.std.proofs.Common.{◌≡◌, ℕ, zero, suc, ◌+◌, ◌-◌, ◌<◌, ◌≤◌, Bool, true, false, cond, ◌&&◌, ◌||◌, eqb, List, [], ◌∷◌, ◌++◌, length, get_or, drop, set, replicate, Some, None, Option, Result, sym, refl, ap, ◌∙◌, arith}
+use Rattle.std.proofs.Common.{◌≡◌, ℕ, zero, suc, ◌≤◌, Bool, true, false, cond, ◌&&◌, ◌||◌, eqb, List, [], ◌∷◌, ◌++◌, length, get_or, set, replicate, Some, None, Option, Result, refl, ap, ◌∙◌, arith}
 use Rattle.std.proofs.lemmas.Bool.{or_parts}
 use Rattle.std.proofs.lemmas.Bool.Decides.{nat_tests}
 use Rattle.isa.specs.declared.fault.Fault.{Fault}
 use Rattle.recovery.specs.declared.Status.{Status}
-use Rattle.recovery.specs.declared.Status.TheVariants.{Pending, Done, Faulted}
-use Rattle.recovery.specs.Meaning.{Entry, has_tag, is_pending, takes, waiting, with_status, delivered, new_entry, first_status}
+use Rattle.recovery.specs.Meaning.{Entry, has_tag, is_pending, takes, waiting, with_status, delivered, new_entry}
 use Rattle.pickcore.specs.declared.stages.Stage.{Stage}
 use Rattle.pickcore.specs.Sound.{Counters, staged, Tied}
 

@@ -1,6 +1,5 @@
 -- What the rules after a retirement can come to: five ways.
-use Rattle.std.proofs.Common.{◌≡◌, ℕ, ◌+◌, ◌-◌, ◌<◌, ◌≤◌, Bool, true, false, cond, leb, List, [], ◌∷◌, ◌++◌, length, get_or, set, Some, None, Ok, Err, Option, Result, sym, refl, ap, ◌∙◌, subst, arith}
-use Rattle.std.proofs.lemmas.Bool.{leb-false}
+use Rattle.std.proofs.Common.{◌≡◌, ℕ, ◌+◌, ◌-◌, Bool, true, false, cond, List, [], ◌∷◌, ◌++◌, get_or, set, Some, None, Ok, Err, Option, Result, refl, arith}
 use Rattle.isa.specs.declared.fault.Fault.{Fault}
 use Rattle.isa.specs.declared.fault.Cause.{Cause}
 use Rattle.isa.specs.declared.fault.Cause.TheVariants as cause
@@ -8,13 +7,12 @@ use Rattle.isa.specs.declared.unit.ExecUnit.{ExecUnit}
 use Rattle.isa.specs.Table.{Instr, halt, store, work, jump}
 use Rattle.isa.specs.Plain.{reads}
 use Rattle.recovery.specs.declared.Admitted.TheVariants.{Awaited, Full, Tagged}
-use Rattle.recovery.specs.Meaning.{Meaning, Entry, awaited_destination, full, new_entry, with_flight, oldest_answer, oldest_of}
+use Rattle.recovery.specs.Meaning.{Meaning, Entry, awaited_destination, full, new_entry, with_flight, oldest_of}
 use Rattle.pickcore.specs.declared.record.Hold.{Hold}
 use Rattle.pickcore.specs.declared.record.Hold.TheVariants as hold
-use Rattle.pickcore.specs.declared.record.Ending.{Ending}
-use Rattle.pickcore.specs.declared.record.Ending.TheVariants.{Issued, Stored, Held, Stopped}
+use Rattle.pickcore.specs.declared.record.Ending.TheVariants.{Issued, Stored}
 use Rattle.pickcore.specs.declared.stages.Stage.{Stage}
-use Rattle.pickcore.specs.Cycle.{Setting, Pipe, Move, Turn, beside, stops, holds, drained, drains, writes, putting, admitted, admits, entering, working, jumping, looks, dispatch, front}
+use Rattle.pickcore.specs.Cycle.{Setting, Pipe, Turn, beside, stops, holds, drained, writes, putting, admitted, entering, working, jumping, looks, dispatch, front}
 
 -- an entry appended to the flight
 abbrev pub appended : Meaning → Entry → Meaning

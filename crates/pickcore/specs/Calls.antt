@@ -1,7 +1,6 @@
 -- The calls on a core: which refusal comes first, and what an accepted call leaves.
-use Rattle.std.specs.Prelude.{◌≡◌, ℕ, ◌+◌, ◌<◌, ◌≤◌, Bool, true, false, cond, not, ◌&&◌, ◌||◌, List, [], ◌∷◌, ◌++◌, map, length, take, drop, replicate, Some, None, Ok, Err, Option, Result, ◌==◌, ◌≢◌, nat_le}
+use Rattle.std.specs.Prelude.{◌≡◌, ℕ, ◌+◌, ◌<◌, ◌≤◌, Bool, true, false, cond, not, ◌&&◌, List, [], ◌∷◌, ◌++◌, map, length, take, drop, replicate, Some, None, Ok, Err, Option, Result, ◌==◌, ◌≢◌, nat_le}
 use Rattle.std.specs.List.{range_with_len}
-use Rattle.isa.specs.declared.fault.Fault.{Fault}
 use Rattle.isa.specs.declared.fault.Cause.{Cause}
 use Rattle.isa.specs.declared.fault.Cause.TheVariants as cause
 use Rattle.isa.specs.declared.refusal.Refusal.{Refusal}

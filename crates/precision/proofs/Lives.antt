@@ -1,32 +1,31 @@
 -- Through the life of a core: one that runs is beside the plain machine, and one that is stopped agrees with it.
-use Rattle.std.proofs.Common.{◌≡◌, ℕ, ◌+◌, ◌<◌, ◌≤◌, Bool, true, false, cond, not, ◌&&◌, eqb, ltb, leb, ◌⊎◌, List, [], ◌∷◌, length, set, replicate, Some, None, Ok, Err, Option, Result, sym, refl, ap, ◌∙◌, subst, inl, inr, ⊎_elim, arith, length-set}
-use Rattle.std.proofs.lemmas.Bool.{and_parts, eqb-true, leb-true, not-true, lt-ltb}
+use Rattle.std.proofs.Common.{◌≡◌, ℕ, ◌+◌, ◌<◌, ◌≤◌, Bool, true, false, cond, not, ◌&&◌, eqb, leb, ◌⊎◌, List, [], length, set, replicate, Some, None, Ok, Err, Option, Result, sym, refl, ap, ◌∙◌, subst, inl, inr, ⊎_elim, arith, length-set}
+use Rattle.std.proofs.lemmas.Bool.{and_parts, eqb-true, leb-true}
 use Rattle.std.specs.Result.{result_err}
-use Rattle.isa.specs.declared.fault.Fault.{Fault}
 use Rattle.isa.specs.declared.fault.Cause.{Cause}
 use Rattle.isa.specs.declared.fault.Cause.TheVariants as cause
 use Rattle.isa.specs.declared.refusal.Refusal.{Refusal}
 use Rattle.isa.specs.declared.refusal.Refusal.TheVariants as refusal
 use Rattle.isa.specs.Table.{fetched, value_or}
-use Rattle.isa.specs.Plain.{Plain, stepped, at_zero}
+use Rattle.isa.specs.Plain.{Plain, at_zero}
 use Rattle.recovery.specs.declared.Timing.{Timing}
-use Rattle.recovery.specs.Meaning.{Meaning, is_empty, place_answer, place_leaves, with_settled, oldest_answer}
+use Rattle.recovery.specs.Meaning.{Meaning, oldest_answer}
 use Rattle.pickcore.specs.declared.record.CycleRecord.{CycleRecord}
 use Rattle.pickcore.specs.declared.record.Ending.{Ending}
 use Rattle.pickcore.specs.declared.record.Ending.TheVariants as ending
-use Rattle.pickcore.specs.Limits.{delays_fit, one_to_sixteen, program_fits, data_fits, stretch}
-use Rattle.pickcore.specs.Cycle.{Setting, Pipe, Turn, emptied, cycle, flight_at_admission}
+use Rattle.pickcore.specs.Limits.{delays_fit, one_to_sixteen, program_fits, data_fits}
+use Rattle.pickcore.specs.Cycle.{Pipe, emptied, cycle}
 use Rattle.pickcore.specs.Model.{setting}
-use Rattle.pickcore.specs.Calls.{Machine, unless, loaded, load_refusal, load_leaves, resume_refusal, resumed, resume_leaves, amend_refusal, amended, amend_leaves, stopped_refusal, marked, request_leaves, counter_or, cut_off, cut_leaves, goes_on, stopped, after_ending, step_refusal, Step, step_turn, turned, step_by, Steps, Rows, none, more, RunsBy, report_answer, registers_answer, looked, taken_up, take_up_by, take_up_refusal, take_up_leaves}
-use Rattle.pickcore.proofs.Sounds.{Steppable, steppable}
+use Rattle.pickcore.specs.Calls.{Machine, unless, loaded, load_refusal, load_leaves, resume_refusal, resumed, resume_leaves, amend_refusal, amended, amend_leaves, stopped_refusal, marked, request_leaves, counter_or, cut_off, cut_leaves, goes_on, stopped, after_ending, step_refusal, Step, step_turn, turned, step_by, Steps, RunsBy, registers_answer, looked, taken_up, take_up_by, take_up_leaves}
+use Rattle.pickcore.proofs.Sounds.{steppable}
 use Rattle.pickcore.proofs.Registers.{looked_settled}
 use Rattle.pickcore.proofs.Taking.{placed, placed_all}
 use Rattle.images.specs.Image.{Snapshot, read_words}
 use Rattle.images.proofs.Trip.{length_read}
 use Rattle.precision.specs.Fit.{Fit, Sane, longest_of}
 use Rattle.precision.specs.Steps.{steps}
-use Rattle.precision.specs.Beside.{Matches, Runs, Ends, Held, ByEnding}
-use Rattle.precision.specs.Waits.{Within, wait_of, Calm}
+use Rattle.precision.specs.Beside.{Runs, Ends, ByEnding}
+use Rattle.precision.specs.Waits.{Within, wait_of}
 use Rattle.precision.proofs.Places.{within_none}
 use Rattle.precision.proofs.Settings.{settings_are_fit}
 use Rattle.precision.proofs.Turns.{idle_runs, cycle_held, cut_held}

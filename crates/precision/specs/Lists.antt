@@ -1,5 +1,5 @@
 -- Precision: a core and the plain machine through any list of calls.
-use Rattle.std.specs.Prelude.{◌≡◌, ℕ, ◌+◌, ◌≤◌, Bool, true, false, cond, not, ◌&&◌, List, length, Some, None, Ok, Err, Option, Result, ◌==◌, slice_set}
+use Rattle.std.specs.Prelude.{◌≡◌, ℕ, ◌+◌, ◌≤◌, Bool, true, cond, not, ◌&&◌, List, length, Some, None, Ok, Err, ◌==◌, slice_set}
 use Rattle.isa.specs.declared.fault.Fault.{Fault}
 use Rattle.isa.specs.declared.fault.Cause.TheVariants as cause
 use Rattle.isa.specs.declared.refusal.Refusal.{Refusal}

@@ -6,9 +6,8 @@ use Rattle.isa.specs.Table.{fetched, value_or}
 use Rattle.isa.specs.Plain.{Plain, stepped, at_zero}
 use Rattle.recovery.specs.declared.Timing.{Timing}
 use Rattle.images.specs.Image.{Snapshot}
-use Rattle.pickcore.specs.declared.record.CycleRecord.{CycleRecord}
 use Rattle.pickcore.specs.declared.record.Report.{Report}
-use Rattle.pickcore.specs.Calls.{Machine, load_refusal, load_leaves, report_answer, registers_answer, Rows}
+use Rattle.pickcore.specs.Calls.{Machine, load_refusal, load_leaves, report_answer, registers_answer}
 use Rattle.precision.specs.Fit.{longest_of}
 use Rattle.precision.specs.Steps.{steps}
 use Rattle.precision.specs.Life.{Deed, step, cut, amend, take_up, resume, other, Event, Life}

@@ -3,9 +3,9 @@ use Rattle.std.proofs.Common.{◌≡◌, ℕ, zero, suc, ◌+◌, ◌-◌, ◌%�
 use Rattle.std.proofs.lemmas.Bool.{ne_eqb, eq-eqb, cases_eq, and_left, and_right}
 use Rattle.std.proofs.lemmas.List.{length-take, get_or-take}
 use Rattle.recovery.specs.declared.Status.{Status}
-use Rattle.recovery.specs.declared.Status.TheVariants.{Pending, Done, Faulted}
+use Rattle.recovery.specs.declared.Status.TheVariants.{Pending}
 use Rattle.recovery.specs.Meaning.{Entry, youngest, has_tag, waiting, delivered, takes, is_pending, with_status}
-use Rattle.recovery.specs.Search.{or_else, last_of, last_index, behind}
+use Rattle.recovery.specs.Search.{or_else, last_index, behind}
 use Rattle.recovery.specs.declared.slots.Slot.{Slot}
 use Rattle.recovery.specs.Slots.{slot_names, entry_of, flight_of, status_in}
 

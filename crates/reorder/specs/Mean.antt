@@ -1,11 +1,11 @@
 -- What a reorder buffer means, and what its searches answer.
-use Rattle.std.specs.Prelude.{ℕ, ◌+◌, ◌-◌, ◌%◌, Bool, cond, ◌&&◌, List, [], ◌∷◌, get_or, take, Some, None, Option, nat_lt, slice_index_or}
+use Rattle.std.specs.Prelude.{ℕ, ◌+◌, ◌-◌, ◌%◌, cond, ◌&&◌, List, get_or, take, Some, None, Option, nat_lt, slice_index_or}
 use Rattle.recovery.specs.declared.Status.{Status}
 use Rattle.recovery.specs.declared.Status.TheVariants.{Pending, Done, Faulted}
 use Rattle.recovery.specs.declared.Timing.{Timing}
 use Rattle.recovery.specs.declared.Timing.TheVariants.{Early, Late}
 use Rattle.recovery.specs.declared.slots.Slot.{Slot}
-use Rattle.recovery.specs.Meaning.{Entry, Meaning, youngest, is_pending, takes}
+use Rattle.recovery.specs.Meaning.{Meaning, youngest, is_pending}
 use Rattle.recovery.specs.Slots.{flight_of, status_in}
 use Rattle.reorder.specs.declared.buffer.Buffer.{Buffer}
 

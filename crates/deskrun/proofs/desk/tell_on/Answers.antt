@@ -1,9 +1,8 @@
-use Rattle.std.proofs.Common.{◌≡◌, ◌*◌, ◌++◌, length, take, Ok, string_bytes, sym, refl, ap, ◌∙◌, arith}
+use Rattle.std.proofs.Common.{◌≡◌, ◌*◌, ◌++◌, length, take, Ok, string_bytes, ap, ◌∙◌}
 use Rattle.std.proofs.lemmas.List.{with_items_is}
 use Rattle.pickcore.specs.Core.{machine_of}
-use Rattle.jobs.specs.declared.call.Totals.{Totals}
 use Rattle.printing.specs.Lines.{load_line, totals_line}
-use Rattle.deskrun.specs.Desk.{cycles_asked, copies_asked, answers_text, TellsOn}
+use Rattle.deskrun.specs.Desk.{answers_text, TellsOn}
 use Rattle.deskrun.proofs.Telling.{made_so, tells}
 use Rattle.deskrun.proofs.desk.tell_on.Goals as goal
 

@@ -1,5 +1,5 @@
-use Rattle.std.proofs.Common.{◌≡◌, ◌++◌, get_or, vec_items, sym, ap, ◌∙◌, rules}
-use Rattle.jobfile.specs.Bytes.{bytes_of, bytes_of_words}
+use Rattle.std.proofs.Common.{◌≡◌, ◌++◌, get_or, vec_items, ap, ◌∙◌}
+use Rattle.jobfile.specs.Bytes.{bytes_of}
 use Rattle.jobfile.proofs.There.{push_more, push_all}
 use Rattle.jobfile.proofs.bytes.push_words.Goals as goal
 

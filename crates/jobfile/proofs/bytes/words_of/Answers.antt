@@ -1,4 +1,4 @@
-use Rattle.std.proofs.Common.{◌≡◌, ◌≤◌, [], ◌∷◌, ◌++◌, length, vec_items, arith, rules, ltb-false, ltb-true}
+use Rattle.std.proofs.Common.{◌≡◌, ◌≤◌, [], ◌∷◌, ◌++◌, length, vec_items, arith, rules, ltb-false}
 use Rattle.jobfile.proofs.Fours.{words_more}
 use Rattle.jobfile.proofs.bytes.words_of.Goals as goal
 

@@ -1,4 +1,4 @@
-use Rattle.std.proofs.Common.{◌≡◌, length, ap, ◌∙◌}
+use Rattle.std.proofs.Common.{length, ap, ◌∙◌}
 use Rattle.jobfile.proofs.There.{length_words}
 use Rattle.jobfile.proofs.job.read_job.Goals as goal
 

@@ -1,5 +1,3 @@
-use Rattle.std.proofs.Common.{◌≡◌, ◌++◌, string_bytes, codes, decimal, ap, ◌∙◌}
-use Rattle.jobfile.specs.Lines.{counter_text}
 use Rattle.jobfile.proofs.Texts.{made_as, line_as}
 use Rattle.jobfile.proofs.lines.cycle_line.Goals as goal
 

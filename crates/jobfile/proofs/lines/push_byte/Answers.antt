@@ -1,4 +1,4 @@
-use Rattle.std.proofs.Common.{◌≡◌, ◌/◌, ◌%◌, [], ◌∷◌, ◌++◌, string_bytes, ap, ◌∙◌}
+use Rattle.std.proofs.Common.{◌/◌, ◌%◌, [], ◌∷◌, ◌++◌, string_bytes, ap, ◌∙◌}
 use Rattle.jobfile.specs.Lines.{hex_digit}
 use Rattle.jobfile.proofs.Texts.{push_then}
 use Rattle.jobfile.proofs.lines.push_byte.Goals as goal

@@ -1,4 +1,4 @@
-use Rattle.std.proofs.Common.{◌≡◌, ◌/◌, ◌%◌, ◌^◌, [], ◌∷◌, ◌++◌, get_or, string_bytes, codes, refl, ap, ◌∙◌}
+use Rattle.std.proofs.Common.{◌/◌, ◌%◌, ◌^◌, ◌++◌, get_or, string_bytes, codes, refl, ap, ◌∙◌}
 use Rattle.jobfile.specs.Lines.{hex_byte}
 use Rattle.jobfile.proofs.Texts.{push_then}
 use Rattle.jobfile.proofs.lines.push_word.Goals as goal

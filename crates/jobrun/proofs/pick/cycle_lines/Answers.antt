@@ -1,4 +1,4 @@
-use Rattle.std.proofs.Common.{◌≡◌, ◌+◌, ◌++◌, string_bytes, ap, ◌∙◌, arith}
+use Rattle.std.proofs.Common.{◌+◌, ◌++◌, string_bytes, ap, ◌∙◌, arith}
 use Rattle.jobfile.specs.Lines.{numbered, cycle_line}
 use Rattle.jobfile.proofs.Texts.{line_more, line_all}
 use Rattle.jobrun.proofs.pick.cycle_lines.Goals as goal

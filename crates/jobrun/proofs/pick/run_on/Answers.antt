@@ -1,4 +1,4 @@
-use Rattle.std.proofs.Common.{◌≡◌, ◌≤◌, ◌++◌, length, take, vec_items, vec_len, string_bytes, sym, refl, ap, ◌∙◌, arith}
+use Rattle.std.proofs.Common.{◌≡◌, ◌++◌, length, string_bytes, ap, ◌∙◌, arith}
 use Rattle.pickcore.specs.Calls.{report_answer}
 use Rattle.pickcore.specs.Core.{machine_of}
 use Rattle.jobrun.specs.Runs.{order, last_line, cycle_lines}

@@ -1,6 +1,5 @@
 use Rattle.std.proofs.Common.{◌≡◌, length, vec_items, sym, ap, ◌∙◌}
 use Rattle.pickcore.specs.Calls.{accepted, load_refusal, unloaded}
-use Rattle.pickcore.specs.Core.{machine_of}
 use Rattle.jobfile.specs.Held.{held}
 use Rattle.jobrun.specs.Runs.{plain_by}
 use Rattle.jobrun.proofs.Picks.{turned_down}

@@ -1,4 +1,4 @@
-use Rattle.std.proofs.Common.{◌≡◌, ◌+◌, ◌++◌, string_bytes, refl, ap, ◌∙◌, arith}
+use Rattle.std.proofs.Common.{◌+◌, ◌++◌, string_bytes, refl, arith}
 use Rattle.jobfile.specs.Lines.{numbered}
 use Rattle.jobrun.specs.Runs.{register_line}
 use Rattle.jobfile.proofs.Texts.{line_more, line_all}

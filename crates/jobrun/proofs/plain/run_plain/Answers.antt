@@ -1,4 +1,4 @@
-use Rattle.std.proofs.Common.{◌≡◌, List, [], ◌∷◌, ◌++◌, string_bytes, codes, decimal, sym, refl, ap, ◌∙◌, append_assoc}
+use Rattle.std.proofs.Common.{◌≡◌, ◌++◌, string_bytes, codes, decimal, refl, ap, ◌∙◌, append_assoc}
 use Rattle.isa.specs.Plain.{Outcome, ran, at_zero}
 use Rattle.isa.specs.State.{plain_of}
 use Rattle.jobfile.specs.Lines.{numbered}

@@ -1,5 +1,5 @@
-use Rattle.std.proofs.Common.{◌≡◌, ℕ, List, vec_items, refl, ap, ◌∙◌}
-use Rattle.pickcore.specs.Calls.{Machine, accepted, stopped_refusal, request_leaves, cut_leaves, amend_refusal, amend_leaves, take_up_refusal, take_up_leaves, resume_refusal, resume_leaves, report_answer, registers_answer}
+use Rattle.std.proofs.Common.{ℕ, List, vec_items, refl, ap, ◌∙◌}
+use Rattle.pickcore.specs.Calls.{accepted, stopped_refusal, request_leaves, cut_leaves, amend_refusal, amend_leaves, take_up_refusal, take_up_leaves, resume_refusal, resume_leaves, report_answer, registers_answer}
 use Rattle.pickcore.specs.Core.{machine_of}
 use Rattle.precision.specs.Life.{cut, amend, resume, other}
 use Rattle.jobs.specs.declared.call.Call.TheVariants as call

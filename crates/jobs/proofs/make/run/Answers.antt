@@ -1,7 +1,6 @@
-use Rattle.std.proofs.Common.{◌≡◌, ◌+◌, ◌-◌, min, ◌++◌, length, take, drop, sym, refl, ap, ◌∙◌, subst, arith, length-drop}
+use Rattle.std.proofs.Common.{◌≡◌, ◌+◌, ◌-◌, length, take, drop, ◌∙◌, arith, length-drop}
 use Rattle.std.proofs.lemmas.List.{length-take-le}
 use Rattle.pickcore.specs.Core.{machine_of}
-use Rattle.jobs.specs.Play.{RanInto}
 use Rattle.jobs.proofs.Filling.{ran_into}
 use Rattle.jobs.proofs.make.run.Goals as goal
 

@@ -1,7 +1,7 @@
-use Rattle.std.proofs.Common.{◌≡◌, ℕ, ◌≤◌, sym, refl, ap, ◌∙◌, subst, arith, rules}
+use Rattle.std.proofs.Common.{◌≡◌, ℕ, refl, ap, ◌∙◌, arith, rules}
 use Rattle.pickcore.specs.Calls.{accepted}
 use Rattle.pickcore.specs.Core.{machine_of}
-use Rattle.jobs.proofs.Moving.{refused_by, accepted_all, take_up_none, resume_none, run_none, never_declined, moved_on}
+use Rattle.jobs.proofs.Moving.{refused_by, accepted_all, take_up_none, resume_none, never_declined, moved_on}
 use Rattle.jobs.proofs.moved.move_job.Goals as goal
 
 pub returns-in-Err : goal.returns-in-Err

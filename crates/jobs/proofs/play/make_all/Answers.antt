@@ -1,12 +1,10 @@
-use Rattle.std.proofs.Common.{◌≡◌, ℕ, ◌+◌, ◌^◌, ◌<◌, ◌≤◌, Bool, List, [], ◌∷◌, ◌++◌, length, get_or, take, set, Option, Result, sym, refl, ap, ◌∙◌, subst, arith}
+use Rattle.std.proofs.Common.{◌≡◌, ℕ, ◌+◌, ◌^◌, ◌<◌, ◌≤◌, List, [], ◌∷◌, ◌++◌, length, get_or, take, set, sym, ap, ◌∙◌, subst, arith}
 use Rattle.std.proofs.lemmas.List.{take_more, take_all}
-use Rattle.isa.specs.declared.refusal.Refusal.{Refusal}
-use Rattle.pickcore.specs.declared.record.Report.{Report}
 use Rattle.pickcore.specs.Calls.{report_answer}
 use Rattle.pickcore.specs.Core.{machine_of}
 use Rattle.jobs.specs.declared.call.Call.{Call}
 use Rattle.jobs.specs.declared.call.Totals.{Totals}
-use Rattle.jobs.specs.Play.{Plays, words_known, or_image, noted, counted, count_of}
+use Rattle.jobs.specs.Play.{Plays, words_known, noted, counted, count_of}
 use Rattle.jobs.proofs.Playing.{Going, going_none, going_more, used, copied, used_more, copied_more, asked_running}
 use Rattle.jobs.proofs.play.make_all.Goals as goal
 

@@ -1,7 +1,5 @@
-use Rattle.std.proofs.Common.{◌≡◌, ◌*◌, ◌^◌, ◌≤◌, length, take}
 use Rattle.pickcore.specs.Core.{machine_of}
-use Rattle.pickcore.specs.Sound.{Sound}
-use Rattle.jobs.specs.Play.{Plays, words_known}
+use Rattle.jobs.specs.Play.{words_known}
 use Rattle.jobs.proofs.Playing.{Going}
 use Rattle.jobs.proofs.play.make_all.Given as goal
 

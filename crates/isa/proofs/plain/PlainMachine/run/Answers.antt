@@ -1,4 +1,4 @@
-use Rattle.std.proofs.Common.{◌<◌, arith}
+use Rattle.std.proofs.Common.{arith}
 use Rattle.isa.specs.Plain.{ran}
 use Rattle.isa.specs.State.{plain_of}
 use Rattle.isa.proofs.Counted.{ran_more, ran_fault, ran_all}

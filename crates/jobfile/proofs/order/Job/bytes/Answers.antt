@@ -1,4 +1,4 @@
-use Rattle.std.proofs.Common.{◌≡◌, List, [], ◌∷◌, ◌++◌, length, vec_items, vec_len, sym, refl, ap, ◌∙◌}
+use Rattle.std.proofs.Common.{◌≡◌, [], ◌∷◌, ◌++◌, length, vec_items, refl, ap, ◌∙◌}
 use Rattle.jobfile.specs.Bytes.{bytes_of_words}
 use Rattle.jobfile.specs.Jobs.{scheme_number}
 use Rattle.jobfile.proofs.There.{all_pushed}

@@ -1,6 +1,6 @@
-use Rattle.std.proofs.Common.{◌≡◌, ◌<◌, ◌≤◌, [], ◌∷◌, length, get_or, Ok, Err, sym, refl, ap, ◌∙◌, arith}
+use Rattle.std.proofs.Common.{◌<◌, ◌≤◌, [], ◌∷◌, length, get_or, Ok, Err, ap, ◌∙◌, arith}
 use Rattle.isa.specs.declared.fault.Fault.TheVariants as fault
-use Rattle.isa.specs.Table.{row, instruction, fetched, sources_of, computes, stores, target}
+use Rattle.isa.specs.Table.{row, fetched, sources_of, computes, stores, target}
 use Rattle.pickcore.specs.Model.{pipe_of, setting}
 use Rattle.pickcore.proofs.Issue.{fetched_past, fetched_at, row_work, row_jump, halt_chosen, store_chosen, work_chosen, jump_chosen}
 use Rattle.pickcore.proofs.pipeline.Pipeline.issue.Goals as goal

@@ -1,4 +1,4 @@
-use Rattle.std.proofs.Common.{◌≡◌, ◌-◌, ◌≤◌, length, Some, sym, arith}
+use Rattle.std.proofs.Common.{◌-◌, ◌≤◌, length, Some, sym, arith}
 use Rattle.std.proofs.lemmas.List.{set_past}
 use Rattle.pickcore.proofs.stages.Stages.enter.Goals as goal
 

@@ -1,4 +1,4 @@
-use Rattle.std.proofs.Common.{◌≡◌, ℕ, ◌<◌, cond, List, replicate, sym, refl, ap, ◌∙◌, arith}
+use Rattle.std.proofs.Common.{◌≡◌, cond, replicate, sym, ap, ◌∙◌, arith}
 use Rattle.recovery.specs.Meaning.{look_answer}
 use Rattle.std.proofs.lemmas.List.FromFn.{fill_by_all}
 use Rattle.pickcore.specs.Calls.{word_or_0, looked}

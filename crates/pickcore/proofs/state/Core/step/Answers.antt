@@ -1,6 +1,6 @@
-use Rattle.std.proofs.Common.{◌≡◌, ℕ, ◌+◌, ◌*◌, ◌≤◌, length, Ok, Err, sym, refl, ap, ◌∙◌, subst, arith}
-use Rattle.pickcore.specs.Cycle.{Turn, cycle}
-use Rattle.pickcore.specs.Calls.{Machine, goes_on, after_ending}
+use Rattle.std.proofs.Common.{◌≡◌, ℕ, length, sym, refl, ap, ◌∙◌, arith}
+use Rattle.pickcore.specs.Cycle.{Turn}
+use Rattle.pickcore.specs.Calls.{goes_on, after_ending}
 use Rattle.pickcore.specs.Core.{machine_of}
 use Rattle.pickcore.specs.Model.{pipe_of, setting}
 use Rattle.pickcore.proofs.Sounds.{cycle_rise, steppable, steps_sound}

@@ -1,4 +1,4 @@
-use Rattle.std.proofs.Common.{◌≡◌, ℕ, ◌≤◌, cond, Some, Ok, Result, sym, refl, ap, ◌∙◌, subst, arith, rules}
+use Rattle.std.proofs.Common.{◌≡◌, ℕ, cond, Some, Ok, Result, sym, ap, ◌∙◌, subst, arith, rules}
 use Rattle.std.specs.Result.{result_err}
 use Rattle.isa.specs.declared.refusal.Refusal.{Refusal}
 use Rattle.isa.specs.declared.refusal.Refusal.TheVariants as refusal
@@ -6,7 +6,7 @@ use Rattle.recovery.specs.Meaning.{Meaning}
 use Rattle.images.specs.Image.{Snapshot, image_words, read_words}
 use Rattle.images.specs.State.{snapshot_of}
 use Rattle.images.proofs.Trip.{read_then_write}
-use Rattle.pickcore.specs.Calls.{Machine, accepted, taken_up, take_up_by, between}
+use Rattle.pickcore.specs.Calls.{accepted, taken_up, take_up_by, between}
 use Rattle.pickcore.specs.Core.{machine_of}
 use Rattle.pickcore.specs.Sound.{Sound}
 use Rattle.pickcore.proofs.Taking.{taken_holds, taken_sound}

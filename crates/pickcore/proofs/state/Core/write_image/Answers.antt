@@ -1,8 +1,8 @@
-use Rattle.std.proofs.Common.{◌≡◌, ℕ, cond, leb, List, replicate, Ok, Err, sym, refl, ap, ◌∙◌, subst}
+use Rattle.std.proofs.Common.{◌≡◌, ℕ, cond, List, replicate, Ok, Err, sym, ap, ◌∙◌, subst}
 use Rattle.std.proofs.lemmas.Bool.{le-leb}
 use Rattle.isa.specs.declared.refusal.Refusal.TheVariants as refusal
 use Rattle.images.specs.Image.{Snapshot, image_words, read_words, write_answer, write_leaves}
-use Rattle.pickcore.specs.Calls.{Machine, looked, imaged, between, count_of_image}
+use Rattle.pickcore.specs.Calls.{looked, count_of_image}
 use Rattle.pickcore.proofs.state.Core.write_image.Goals as goal
 
 pub returns : goal.returns
