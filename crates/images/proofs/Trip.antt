@@ -3,7 +3,7 @@ use Rattle.std.proofs.Common.{◌≡◌, ℕ, ◌+◌, ◌*◌, ◌/◌, ◌%◌
 use Rattle.std.proofs.lemmas.List.{take-append-drop, length-take-le, length-append, take_at, get_or-append_right, drop_more, drop_all}
 use Rattle.std.proofs.lemmas.Bool.{and_parts, and_from, eq-eqb, eqb-true, le-leb, leb-true, cond-true}
 use Rattle.std.proofs.lemmas.Bool.Decides.{nat_tests}
-use Rattle.std.specs.List.{AllByRecursion as All}
+use Rattle.std.specs.List.{AllByRecursion}
 use Rattle.isa.specs.declared.fault.Fault.TheVariants as fault
 use Rattle.isa.specs.declared.fault.Cause.{Cause}
 use Rattle.isa.specs.declared.fault.Cause.TheVariants as cause
@@ -72,7 +72,7 @@ registers_there r (low ∷ (high ∷ rest)) xs h e =
     let s : p.0 ∷ q.0 ≡ xs = cc q.2 in
     ap (register_words r) (sym s) ∙ cc (a.0, a.1, b)
 
-registers_back : (r : ℕ) (xs : List ℕ) → All (λ x. x < 2 ^ 32) xs → registers_read r (register_words r xs) ≡ Ok xs
+registers_back : (r : ℕ) (xs : List ℕ) → AllByRecursion (λ x. x < 2 ^ 32) xs → registers_read r (register_words r xs) ≡ Ok xs
 registers_back r [] h = refl
 registers_back r (x ∷ xs) h =
     let a = register_back r x h.0 in

@@ -1,6 +1,6 @@
 -- Each image means one state, and what is no image is refused for its first bad word.
 use Rattle.std.specs.Prelude.{◌≡◌, ℕ, ◌^◌, ◌<◌, ◌≤◌, List, length, Ok}
-use Rattle.std.specs.List.{AllByRecursion as All}
+use Rattle.std.specs.List.{AllByRecursion}
 use Rattle.std.specs.Result.{result_err}
 use Rattle.images.specs.Image.{Snapshot, image_words, read_words}
 use Rattle.images.specs.Rules.{first_bad, refusal_for}
@@ -12,7 +12,7 @@ ReadThenWrite = (ws : List ℕ) (s : Snapshot) → read_words ws ≡ Ok s → im
 -- the image of a state reads as it: sixteen registers of 32 bits, a counter of 16 bits, a count of at most 1,000,000
 abbrev pub WriteThenRead : Type 0
 WriteThenRead =
-    (s : Snapshot) → length s.registers ≡ 16 → All (λ x. x < 2 ^ 32) s.registers → s.counter < 2 ^ 16
+    (s : Snapshot) → length s.registers ≡ 16 → AllByRecursion (λ x. x < 2 ^ 32) s.registers → s.counter < 2 ^ 16
     → s.count ≤ 1000000 → read_words (image_words s) ≡ Ok s
 
 -- 36 words are refused for the first that breaks its rule, and for nothing else

@@ -1,7 +1,7 @@
 // Writing an image.
 ghost use Rattle.std.specs.Prelude.{◌≡◌, ◌^◌, ◌<◌, ◌≤◌, true, ◌++◌, length, drop, is_ok, Ok};
 ghost use Rattle.images.specs.Words.{word_of};
-ghost use Rattle.std.specs.List.{AllByRecursion as All};
+ghost use Rattle.std.specs.List.{AllByRecursion};
 ghost use Rattle.images.specs.Image.{register_words, image_words, read_words, write_answer, write_leaves};
 ghost use Rattle.images.specs.State.{snapshot_of};
 
@@ -25,7 +25,7 @@ fn word_of(kind: u32, register: u32, value: u32) -> u32
 fn write_registers(registers: &[u32], buffer: &mut [u32])
     requires { (length registers.now ≡ 16) × (32 ≤ length buffer.old) }
     ensures words { buffer.new ≡ register_words 0 registers.now ++ drop 32 buffer.old }
-    ensures fit { All (λ x. x < 2 ^ 32) registers.now }
+    ensures fit { AllByRecursion (λ x. x < 2 ^ 32) registers.now }
 {
     for (register, value) in registers.iter().enumerate() {
         let number = register as u32;

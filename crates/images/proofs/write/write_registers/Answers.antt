@@ -1,5 +1,5 @@
 use Rattle.std.proofs.Common.{◌≡◌, ◌*◌, ◌^◌, ◌<◌, ◌++◌, get_or, take, drop, ap, ◌∙◌, subst, arith}
-use Rattle.std.specs.List.{AllByRecursion as All}
+use Rattle.std.specs.List.{AllByRecursion}
 use Rattle.std.proofs.lemmas.Nat.{and_mask}
 use Rattle.std.proofs.lemmas.List.{take_all}
 use Rattle.std.proofs.ByRecursion.{All-more}
@@ -22,5 +22,5 @@ returns c =
     let n : 2 * r ≡ 32 = omega arith in
     record {
       words = c.loop-register.invariant.0 ∙ (ap (λ xs. register_words 0 xs ++ drop (2 * r) c.args.buffer.now) t ∙ ap (λ m. register_words 0 c.args.registers.now ++ drop m c.args.buffer.now) n);
-      fit = subst (λ xs. All (λ x. x < 2 ^ 32) xs) t c.loop-register.invariant.1;
+      fit = subst (λ xs. AllByRecursion (λ x. x < 2 ^ 32) xs) t c.loop-register.invariant.1;
     }
