@@ -27,7 +27,7 @@ taken_over spare setup s = resumed (taken_up (loads_to spare setup) s) s.counter
 -- The plain machine p had taken `before` steps as the scanner stopped. From where it stood then it agrees with the spare
 -- n, and the two counts together are the steps that it has taken, none with a fault: nothing half done has moved, and
 -- nothing done is lost.
-pub record Goes_on (k : Timing) (program : List ℕ) (p : Plain) (before : ℕ) (ws : List ℕ) (n : Machine) : Type 0 where
+pub record GoesOn (k : Timing) (program : List ℕ) (p : Plain) (before : ℕ) (ws : List ℕ) (n : Machine) : Type 0 where
   pub here : Plain
   pub stood : steps (fetched program) before p ≡ Ok here
   pub agrees : Agrees k program here ws n
@@ -44,7 +44,7 @@ pub record Moves (ka kb : Timing) (program : List ℕ) (setup : Setup) (scanner 
   pub events : List Event
   pub life : Life kb program (loads_to spare setup) ws events spare' vs
   pub precise : Precise kb program ws (longest_of setup.delays) events
-  pub goes_on : (p : Plain) (a : Agrees ka program p ws scanner) → Goes_on kb program p a.report.count vs spare'
+  pub goes_on : (p : Plain) (a : Agrees ka program p ws scanner) → GoesOn kb program p a.report.count vs spare'
 
 -- what comes of moving a job, by the answer
 abbrev pub Moving : Timing → Timing → List ℕ → Setup → Machine → Machine → List ℕ → List CycleRecord → Result Moved Refusal → Machine → List ℕ → List CycleRecord → Type 0

@@ -1,4 +1,5 @@
--- Precision: a core and the plain machine through any list of calls.
+-- Precision: a core and the plain machine through any list of loads, steps, runs, requests, cuts, amends and resumes. The
+-- lists with take-ups too are the lives of Life.antt.
 use Rattle.std.specs.Prelude.{◌≡◌, ℕ, ◌+◌, ◌≤◌, Bool, true, cond, not, ◌&&◌, List, length, Some, None, Ok, Err, ◌==◌, slice_set}
 use Rattle.isa.specs.declared.fault.Fault.{Fault}
 use Rattle.isa.specs.declared.fault.Cause.TheVariants as cause
