@@ -31,33 +31,29 @@ use Rattle.precision.proofs.Settings.{settings_are_fit}
 use Rattle.precision.proofs.Turns.{idle_runs, cycle_held, cut_held}
 use Rattle.precision.proofs.Waits.{cycle_calm, wait_bound}
 use Rattle.precision.specs.Life.{Deed, step, cut, amend, take_up, resume, other, Event, Other, asked, requested, step_declined, run_declined, cut_declined, amend_declined, take_up_declined, resume_declined, Happens, Life, start, next}
-use Rattle.precision.specs.Precise.{reported, followed, with_register, with_state, with_counter, plain_after, plain_beside, quiet_after, quiet_steps, Agrees, Precise, LivesArePrecise, StoppedCoresAgree}
+use Rattle.precision.specs.Precise.{reported, followed, with_register, with_state, with_counter, plain_after, plain_beside, quiet, quiet_after, quiet_steps, Agrees, Precise, LivesArePrecise, StoppedCoresAgree}
 
 -- a stopped core and the plain machine beside it
-record Idle (p : Plain) (ws : List ℕ) (q : Pipe) : Type 0 where
-  registers : p.registers ≡ q.scheme.settled
-  words : p.words ≡ ws
-  wide : length p.registers ≡ 16
-  roomy : 1 ≤ q.scheme.capacity
-  empty : q.scheme.flight ≡ []
-  clear : q.stages ≡ replicate 16 None
+pub record Idle (p : Plain) (ws : List ℕ) (q : Pipe) : Type 0 where
+  pub registers : p.registers ≡ q.scheme.settled
+  pub words : p.words ≡ ws
+  pub wide : length p.registers ≡ 16
+  pub roomy : 1 ≤ q.scheme.capacity
+  pub empty : q.scheme.flight ≡ []
+  pub clear : q.stages ≡ replicate 16 None
 
 -- a core and the plain machine, where the core runs or is stopped
-abbrev LifeOf : Timing → List ℕ → Plain → List ℕ → ℕ → Machine → Bool → Type 0
+abbrev pub LifeOf : Timing → List ℕ → Plain → List ℕ → ℕ → Machine → Bool → Type 0
 LifeOf k program p ws z m true =
     Runs (setting k m.delays program) p m.pipe ws
     × Within (longest_of m.delays) m.pipe.stages
     × (z + wait_of (longest_of m.delays) m.pipe.stages m.pipe.scheme.flight ≤ longest_of m.delays)
 LifeOf k program p ws z m false = Idle p ws m.pipe × (z ≤ longest_of m.delays)
 
-record Kept (k : Timing) (program : List ℕ) (p : Plain) (ws : List ℕ) (z : ℕ) (m : Machine) : Type 0 where
-  units : length m.delays ≡ 4
-  fit : delays_fit m.delays ≡ true
-  life : LifeOf k program p ws z m m.running
-
--- accepted steps in a row that neither raised the count nor made a report
-abbrev quiet_of : ℕ → Machine → Machine → ℕ
-quiet_of z m n = cond (n.running && eqb n.pipe.count m.pipe.count) (z + 1) 0
+pub record Kept (k : Timing) (program : List ℕ) (p : Plain) (ws : List ℕ) (z : ℕ) (m : Machine) : Type 0 where
+  pub units : length m.delays ≡ 4
+  pub fit : delays_fit m.delays ≡ true
+  pub life : LifeOf k program p ws z m m.running
 
 module _ (k : Timing) (program : List ℕ) where
   -- what `registers` answers of a stopped core
@@ -66,11 +62,11 @@ module _ (k : Timing) (program : List ℕ) where
       ap (λ b. cond {A = List ℕ × ℕ} b (replicate 16 0, 6) (looked k n.pipe.scheme, 0)) off
       ∙ ap (λ ys. (ys, 0)) (looked_settled k n.pipe.scheme e (ap length f ∙ l) ∙ f)
 
-  bounded : (p : Plain) (ws : List ℕ) (z : ℕ) (m : Machine) (b : Bool) → LifeOf k program p ws z m b → z ≤ longest_of m.delays
+  pub bounded : (p : Plain) (ws : List ℕ) (z : ℕ) (m : Machine) (b : Bool) → LifeOf k program p ws z m b → z ≤ longest_of m.delays
   bounded p ws z m true l = let h = l.2 in omega arith
   bounded p ws z m false l = l.1
 
-  idle_from : (p : Plain) (ws : List ℕ) (z : ℕ) (m : Machine) → m.running ≡ false → Kept k program p ws z m → Idle p ws m.pipe
+  pub idle_from : (p : Plain) (ws : List ℕ) (z : ℕ) (m : Machine) → m.running ≡ false → Kept k program p ws z m → Idle p ws m.pipe
   idle_from p ws z m off h = (subst (LifeOf k program p ws z m) off h.life).0
 
   -- what a cycle leaves, by its ending
@@ -80,7 +76,7 @@ module _ (k : Timing) (program : List ℕ) where
 
     going : Runs (setting k m.delays program) p q vs
         → ((q.count ≡ m.pipe.count → wait_of (longest_of m.delays) q.stages q.scheme.flight < wait_of (longest_of m.delays) m.pipe.stages m.pipe.scheme.flight) × Within (longest_of m.delays) q.stages)
-        → Kept k program (followed program p m (goes_on m q)) vs (quiet_of z m (goes_on m q)) (goes_on m q)
+        → Kept k program (followed program p m (goes_on m q)) vs (quiet z m (goes_on m q)) (goes_on m q)
     going r calm = record {
       units = h.units;
       fit = h.fit;
@@ -125,7 +121,7 @@ module _ (k : Timing) (program : List ℕ) where
 
     after_cycle : (e : Ending) → ByEnding (Runs (setting k m.delays program) p q vs) (λ c. Ends (setting k m.delays program) p c q vs) e
         → ByEnding ((q.count ≡ m.pipe.count → wait_of (longest_of m.delays) q.stages q.scheme.flight < wait_of (longest_of m.delays) m.pipe.stages m.pipe.scheme.flight) × Within (longest_of m.delays) q.stages) (λ _. Unit {0}) e
-        → Kept k program (followed program p m (after_ending m q e)) vs (quiet_of z m (after_ending m q e)) (after_ending m q e)
+        → Kept k program (followed program p m (after_ending m q e)) vs (quiet z m (after_ending m q e)) (after_ending m q e)
         × (reported m (after_ending m q e) ≡ true → Agrees k program p vs (after_ending m q e))
     after_cycle (ending.Issued c) r calm = (going r calm, λ y. silent y)
     after_cycle (ending.Stored c) r calm = (going r calm, λ y. silent y)
@@ -136,12 +132,12 @@ module _ (k : Timing) (program : List ℕ) where
   fits m u f = settings_are_fit k m.delays program u f
 
   -- an accepted step
-  step_on : (p : Plain) (ws : List ℕ) (z : ℕ) (m : Machine) (s : Step) (r : CycleRecord) → Kept k program p ws z m → Steps k m program ws s → s.answer ≡ Ok r
-      → Kept k program (followed program p m s.machine) s.words (quiet_of z m s.machine) s.machine × (reported m s.machine ≡ true → Agrees k program p s.words s.machine)
+  pub step_on : (p : Plain) (ws : List ℕ) (z : ℕ) (m : Machine) (s : Step) (r : CycleRecord) → Kept k program p ws z m → Steps k m program ws s → s.answer ≡ Ok r
+      → Kept k program (followed program p m s.machine) s.words (quiet z m s.machine) s.machine × (reported m s.machine ≡ true → Agrees k program p s.words s.machine)
   step_on p ws z m s r h st a = by (step_refusal m (length program) (length ws)) refl
     where
       by : (o : Option Refusal) → step_refusal m (length program) (length ws) ≡ o
-          → Kept k program (followed program p m s.machine) s.words (quiet_of z m s.machine) s.machine × (reported m s.machine ≡ true → Agrees k program p s.words s.machine)
+          → Kept k program (followed program p m s.machine) s.words (quiet z m s.machine) s.machine × (reported m s.machine ≡ true → Agrees k program p s.words s.machine)
       by (Some x) e =
           let q : s ≡ step_by k m program ws st.tag (Some x) = st.is ∙ ap (step_by k m program ws st.tag) e in
           let f : Ok r ≡ Err x = sym a ∙ ap (λ (y : Step). y.answer) q in
@@ -152,13 +148,13 @@ module _ (k : Timing) (program : List ℕ) where
           let life = subst (LifeOf k program p ws z m) on h.life in
           let ok = fits m h.units h.fit in
           let t = cycle (setting k m.delays program) m.requested st.tag m.pipe ws in
-          subst (λ (y : Step). Kept k program (followed program p m y.machine) y.words (quiet_of z m y.machine) y.machine × (reported m y.machine ≡ true → Agrees k program p y.words y.machine)) (sym q)
+          subst (λ (y : Step). Kept k program (followed program p m y.machine) y.words (quiet z m y.machine) y.machine × (reported m y.machine ≡ true → Agrees k program p y.words y.machine)) (sym q)
           (after_cycle p ws z m on h t.pipe t.words t.ending
           (cycle_held (setting k m.delays program) (longest_of m.delays) ok.0 ok.1 p m.requested st.tag m.pipe ws life.0 st.free)
           (cycle_calm (setting k m.delays program) (longest_of m.delays) ok.0 ok.1 p m.requested st.tag m.pipe ws life.0 life.1 st.free))
 
   -- a declined step
-  step_off : (p : Plain) (ws : List ℕ) (z : ℕ) (m : Machine) (lent words : List ℕ) (s : Step) (x : Refusal) → Kept k program p ws z m → Steps k m lent words s → s.answer ≡ Err x → Kept k program p ws z s.machine
+  pub step_off : (p : Plain) (ws : List ℕ) (z : ℕ) (m : Machine) (lent words : List ℕ) (s : Step) (x : Refusal) → Kept k program p ws z m → Steps k m lent words s → s.answer ≡ Err x → Kept k program p ws z s.machine
   step_off p ws z m lent words s x h st a = by (step_refusal m (length lent) (length words)) refl
     where
       by : (o : Option Refusal) → step_refusal m (length lent) (length words) ≡ o → Kept k program p ws z s.machine
@@ -176,7 +172,7 @@ module _ (k : Timing) (program : List ℕ) where
   unmoved : (p : Plain) (ws : List ℕ) (z : ℕ) (m : Machine) → Kept k program p ws z m → Kept k program (followed program p m m) ws z m
   unmoved p ws z m h = subst (λ y. Kept k program y ws z m) (sym (ap (λ b. cond b (value_or p (steps (fetched program) m.pipe.count p)) p) (still m.running))) h
 
-  cut_on : (p : Plain) (ws : List ℕ) (z : ℕ) (m : Machine) → Kept k program p ws z m
+  pub cut_on : (p : Plain) (ws : List ℕ) (z : ℕ) (m : Machine) → Kept k program p ws z m
       → Kept k program (followed program p m (cut_leaves m)) ws z (cut_leaves m) × (reported m (cut_leaves m) ≡ true → Agrees k program p ws (cut_leaves m))
   cut_on p ws z m h = by m.running refl
     where
@@ -197,7 +193,7 @@ module _ (k : Timing) (program : List ℕ) where
             λ _. agrees p ws z m on h q ws cause.Cut (cut_off m) refl refl refl x,
           )
 
-  request_on : (p : Plain) (ws : List ℕ) (z : ℕ) (m : Machine) → Kept k program p ws z m → Kept k program p ws z (request_leaves m)
+  pub request_on : (p : Plain) (ws : List ℕ) (z : ℕ) (m : Machine) → Kept k program p ws z m → Kept k program p ws z (request_leaves m)
   request_on p ws z m h = by (stopped_refusal m)
     where
       by : (o : Option Refusal) → Kept k program p ws z (unless o (marked m) m)
@@ -208,7 +204,7 @@ module _ (k : Timing) (program : List ℕ) where
           moved false l = l
       by (Some x) = h
 
-  amend_on : (p : Plain) (ws : List ℕ) (z : ℕ) (m : Machine) (r w : ℕ) → Kept k program p ws z m → Kept k program (unless (amend_refusal m r) (with_register p r w) p) ws z (amend_leaves m r w)
+  pub amend_on : (p : Plain) (ws : List ℕ) (z : ℕ) (m : Machine) (r w : ℕ) → Kept k program p ws z m → Kept k program (unless (amend_refusal m r) (with_register p r w) p) ws z (amend_leaves m r w)
   amend_on p ws z m r w h = by m.running refl (leb r 15) refl
     where
       by : (b : Bool) → m.running ≡ b → (c : Bool) → leb r 15 ≡ c → Kept k program (unless (amend_refusal m r) (with_register p r w) p) ws z (amend_leaves m r w)
@@ -233,7 +229,7 @@ module _ (k : Timing) (program : List ℕ) where
           (sym (ap (λ b. cond b (Some refusal.Running) (cond (leb r 15) None (Some refusal.Register))) off ∙ ap (λ c. cond c None (Some refusal.Register)) e))
           (record { units = h.units; fit = h.fit; life = subst (LifeOf k program (with_register p r w) ws z (amended m r w)) (sym off) (idle, bounded p ws z m m.running h.life) })
 
-  resume_on : (p : Plain) (ws : List ℕ) (z : ℕ) (m : Machine) (c : ℕ) → Kept k program p ws z m → Kept k program (unless (resume_refusal m c) (with_counter p c) p) ws (unless (resume_refusal m c) 0 z) (resume_leaves m c)
+  pub resume_on : (p : Plain) (ws : List ℕ) (z : ℕ) (m : Machine) (c : ℕ) → Kept k program p ws z m → Kept k program (unless (resume_refusal m c) (with_counter p c) p) ws (unless (resume_refusal m c) 0 z) (resume_leaves m c)
   resume_on p ws z m c h = by m.running refl (leb c 65535) refl
     where
       by : (b : Bool) → m.running ≡ b → (d : Bool) → leb c 65535 ≡ d → Kept k program (unless (resume_refusal m c) (with_counter p c) p) ws (unless (resume_refusal m c) 0 z) (resume_leaves m c)
@@ -260,7 +256,7 @@ module _ (k : Timing) (program : List ℕ) where
           })
 
   -- what load accepts
-  load_on : (m : Machine) (ds : List ℕ) (c pl dl : ℕ) (ws : List ℕ) → length ds ≡ 4 → load_refusal m ds c pl dl ≡ None → Kept k program (at_zero ws) ws 0 (load_leaves m ds c pl dl)
+  pub load_on : (m : Machine) (ds : List ℕ) (c pl dl : ℕ) (ws : List ℕ) → length ds ≡ 4 → load_refusal m ds c pl dl ≡ None → Kept k program (at_zero ws) ws 0 (load_leaves m ds c pl dl)
   load_on m ds c pl dl ws u e =
       let f = accepts m.running (delays_fit ds) refl (one_to_sixteen c) refl e in
       subst (λ o. Kept k program (at_zero ws) ws 0 (unless o (loaded ds c pl dl) m)) (sym e)

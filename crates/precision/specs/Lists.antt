@@ -1,34 +1,17 @@
 -- Precision: a core and the plain machine through any list of loads, steps, runs, requests, cuts, amends and resumes. The
 -- lists with take-ups too are the lives of Life.antt.
-use Rattle.std.specs.Prelude.{◌≡◌, ℕ, ◌+◌, ◌≤◌, Bool, true, cond, not, ◌&&◌, List, length, Some, None, Ok, Err, ◌==◌, slice_set}
+use Rattle.std.specs.Prelude.{◌≡◌, ℕ, ◌≤◌, true, List, length, Some, None, Ok, Err}
 use Rattle.isa.specs.declared.fault.Fault.{Fault}
 use Rattle.isa.specs.declared.fault.Cause.TheVariants as cause
 use Rattle.isa.specs.declared.refusal.Refusal.{Refusal}
-use Rattle.isa.specs.Table.{fetched, value_or}
+use Rattle.isa.specs.Table.{fetched}
 use Rattle.isa.specs.Plain.{Plain, stepped, at_zero}
 use Rattle.recovery.specs.declared.Timing.{Timing}
 use Rattle.pickcore.specs.declared.record.CycleRecord.{CycleRecord}
 use Rattle.pickcore.specs.Calls.{Machine, unless, load_refusal, load_leaves, resume_refusal, resume_leaves, amend_refusal, amend_leaves, request_leaves, cut_leaves, Step, Steps, Rows}
 use Rattle.precision.specs.Fit.{longest_of}
 use Rattle.precision.specs.Steps.{steps}
-
--- a call made a report: the core ran, and is stopped now
-abbrev pub reported : Machine → Machine → Bool
-reported m n = m.running && not n.running
-
--- at a report the plain machine takes as many steps as the report's count; else it stays as it is
-abbrev pub followed : List ℕ → Plain → Machine → Machine → Plain
-followed program p m n = cond (reported m n) (value_or p (steps (fetched program) n.pipe.count p)) p
-
--- accepted steps in a row that neither raised the count nor made a report
-abbrev pub quiet : ℕ → Machine → Machine → ℕ
-quiet z m n = cond (n.running && n.pipe.count == m.pipe.count) (z + 1) 0
-
-abbrev pub with_register : Plain → ℕ → ℕ → Plain
-with_register p r w = record { registers = slice_set p.registers r w; words = p.words; counter = p.counter }
-
-abbrev pub with_counter : Plain → ℕ → Plain
-with_counter p c = record { registers = p.registers; words = p.words; counter = c }
+use Rattle.precision.specs.Precise.{reported, followed, quiet, with_register, with_counter}
 
 -- The plain machine p beside the core m, after any list of calls, where ws are the data words that the last accepted
 -- step left, or the first ones, and z accepted steps in a row have been quiet since the last resume. Every accepted step

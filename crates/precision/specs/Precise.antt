@@ -62,9 +62,13 @@ pub record Agrees (k : Timing) (program : List ℕ) (p : Plain) (ws : List ℕ) 
 
 -- Between two reports
 
+-- a step that neither raised the count nor made a report is one more in a row
+abbrev pub quiet : ℕ → Machine → Machine → ℕ
+quiet z before after = cond (after.running && after.pipe.count == before.pipe.count) (z + 1) 0
+
 -- accepted steps in a row, since the last resume, that neither raised the count nor made a report
 abbrev pub quiet_after : ℕ → Deed → Machine → Machine → ℕ
-quiet_after z (step r) before after = cond (after.running && after.pipe.count == before.pipe.count) (z + 1) 0
+quiet_after z (step r) before after = quiet z before after
 quiet_after z cut before after = z
 quiet_after z (amend r w) before after = z
 quiet_after z (take_up s) before after = z
