@@ -1,21 +1,21 @@
 // Reading an image, from its front: words, then registers of two words each, then the whole.
 ghost use Rattle.std.specs.Prelude.{◌≡◌, ◌+◌, ◌*◌, ◌<◌, ◌≤◌, length, IfOk};
 ghost use Rattle.isa.specs.declared.refusal.Refusal.TheVariants.{ImageWord};
-ghost use Rattle.images.specs.Causes.{cause_of};
+ghost use Rattle.images.specs.Kinds.{word_kind_number};
 ghost use Rattle.images.specs.Words.{value_read, half_read, register_read};
 ghost use Rattle.images.specs.Image.{onto, with_registers, registers_read, cause_read, tail_read, read_words};
 ghost use Rattle.images.specs.State.{snapshots};
 
 use crate::layout::{
-    CAUSE, CAUSE_AT, COUNT, COUNT_AT, COUNTER, COUNTER_AT, END_AT, END_WORD, HIGH_HALF,
-    IMAGE_WORDS, LOW_HALF, MOST_COUNT, MOST_HALF, REGISTER_WORDS,
+    CAUSE_AT, COUNT_AT, COUNTER_AT, END_AT, END_WORD, IMAGE_WORDS, MOST_COUNT, MOST_HALF,
+    REGISTER_WORDS, WordKind,
 };
 use crate::state::State;
-use isa::fault::{Cause, Fault};
+use isa::fault::Cause;
 use isa::refusal::Refusal;
 
 // A word that breaks its rule, by its place in the image.
-#[derive(Clone, Copy)]
+#[derive(Clone, Copy, PartialEq, Eq, Debug)]
 struct BadWord {
     index: usize,
 }
@@ -29,13 +29,19 @@ impl From<BadWord> for Refusal {
 }
 
 // The value in a word of a kind and a register, which is at most `most`.
-fn read_value(word: u32, kind: u32, register: u32, most: u32, index: usize) -> Result<u32, BadWord>
-    requires { (kind < 16) × (register < 16) }
-    ensures answer { result ≡ value_read word kind register most index }
+fn read_value(
+    word: u32,
+    kind: WordKind,
+    register: u32,
+    most: u32,
+    index: usize,
+) -> Result<u32, BadWord>
+    requires { register < 16 }
+    ensures answer { result ≡ value_read word (word_kind_number kind) register most index }
     ensures within { IfOk result (λ v. v ≤ most) }
 {
     let value = word & 0xff_ffff;
-    if word >> 24 == kind * 16 + register && value <= most {
+    if word >> 24 == u32::from(kind) * 16 + register && value <= most {
         Ok(value)
     } else {
         Err(BadWord { index })
@@ -43,9 +49,9 @@ fn read_value(word: u32, kind: u32, register: u32, most: u32, index: usize) -> R
 }
 
 // A value of 16 bits: half a register, the counter or the number of a cause.
-fn read_half(word: u32, kind: u32, register: u32, index: usize) -> Result<u16, BadWord>
-    requires { (kind < 16) × (register < 16) }
-    ensures { result ≡ half_read word kind register index }
+fn read_half(word: u32, kind: WordKind, register: u32, index: usize) -> Result<u16, BadWord>
+    requires { register < 16 }
+    ensures { result ≡ half_read word (word_kind_number kind) register index }
 {
     let half = read_value(word, kind, register, MOST_HALF, index)?;
     Ok(half as u16)
@@ -56,8 +62,8 @@ fn read_register(low: u32, high: u32, register: u32) -> Result<u32, BadWord>
     ensures { result ≡ register_read low high register }
 {
     let at = register as usize * 2;
-    let low = read_half(low, LOW_HALF, register, at)?;
-    let high = read_half(high, HIGH_HALF, register, at + 1)?;
+    let low = read_half(low, WordKind::LowHalf, register, at)?;
+    let high = read_half(high, WordKind::HighHalf, register, at + 1)?;
     Ok(((high as u32) << 16) + low as u32)
 }
 
@@ -75,31 +81,17 @@ fn read_registers(words: &[u32], register: u32, registers: &mut [u32]) -> Result
     }
 }
 
-// The cause of a number: 0 stands for none, and no cause has a number above 8.
-pub fn cause_from_number(number: u32) -> Option<Option<Cause>>
-    ensures { result ≡ cause_of number }
-{
-    match number {
-        0 => Some(None),
-        1 => Some(Some(Cause::Fault(Fault::DivideByZero))),
-        2 => Some(Some(Cause::Fault(Fault::Overflow))),
-        3 => Some(Some(Cause::Fault(Fault::Address))),
-        4 => Some(Some(Cause::Fault(Fault::Illegal))),
-        5 => Some(Some(Cause::Fault(Fault::PastEnd))),
-        6 => Some(Some(Cause::Fault(Fault::Stop))),
-        7 => Some(Some(Cause::Request)),
-        8 => Some(Some(Cause::Cut)),
-        _ => None,
-    }
-}
-
+// The cause in the word of the causes: the number 0 stands for none.
 fn read_cause(word: u32) -> Result<Option<Cause>, BadWord>
     ensures { result ≡ cause_read word }
 {
-    let number = read_half(word, CAUSE, 0, CAUSE_AT)?;
-    match cause_from_number(number as u32) {
-        Some(cause) => Ok(cause),
-        None => Err(BadWord { index: CAUSE_AT }),
+    let number = read_half(word, WordKind::Cause, 0, CAUSE_AT)?;
+    if number == 0 {
+        return Ok(None);
+    }
+    match Cause::try_from(u32::from(number)) {
+        Ok(cause) => Ok(Some(cause)),
+        Err(_) => Err(BadWord { index: CAUSE_AT }),
     }
 }
 
@@ -113,9 +105,9 @@ fn read_tail(
     ensures answer { result ≡ tail_read counter cause count last }
     ensures few { IfOk result (λ t. t.2 ≤ 1000000) }
 {
-    let counter = read_half(counter, COUNTER, 0, COUNTER_AT)?;
+    let counter = read_half(counter, WordKind::Counter, 0, COUNTER_AT)?;
     let cause = read_cause(cause)?;
-    let count = read_value(count, COUNT, 0, MOST_COUNT, COUNT_AT)?;
+    let count = read_value(count, WordKind::Count, 0, MOST_COUNT, COUNT_AT)?;
     if last != END_WORD {
         return Err(BadWord { index: END_AT });
     }

@@ -1,24 +1,24 @@
 // Writing an image.
 ghost use Rattle.std.specs.Prelude.{◌≡◌, ◌^◌, ◌<◌, ◌≤◌, true, ◌++◌, length, drop, is_ok, Ok};
+ghost use Rattle.images.specs.Kinds.{word_kind_number};
 ghost use Rattle.images.specs.Words.{word_of};
 ghost use Rattle.std.specs.List.{AllByRecursion};
 ghost use Rattle.images.specs.Image.{register_words, image_words, read_words, write_answer, write_leaves};
 ghost use Rattle.images.specs.State.{snapshot_of};
 
 use crate::layout::{
-    CAUSE, CAUSE_AT, COUNT, COUNT_AT, COUNTER, COUNTER_AT, END_AT, END_WORD, HIGH_HALF,
-    IMAGE_WORDS, LOW_HALF, MOST_HALF,
+    CAUSE_AT, COUNT_AT, COUNTER_AT, END_AT, END_WORD, IMAGE_WORDS, MOST_HALF, WordKind,
 };
 use crate::state::State;
-use isa::fault::cause_number;
+use isa::number::number_or_0;
 use isa::refusal::Refusal;
 
 // The word of a kind, a register and a value.
-fn word_of(kind: u32, register: u32, value: u32) -> u32
-    requires { (kind < 16) × ((register < 16) × (value < 2 ^ 24)) }
-    ensures { result ≡ word_of kind register value }
+fn word_of(kind: WordKind, register: u32, value: u32) -> u32
+    requires { (register < 16) × (value < 2 ^ 24) }
+    ensures { result ≡ word_of (word_kind_number kind) register value }
 {
-    (kind << 28) + (register << 24) + value
+    (u32::from(kind) << 28) + (register << 24) + value
 }
 
 // Two words for each register, its low half before its high half.
@@ -29,8 +29,8 @@ fn write_registers(registers: &[u32], buffer: &mut [u32])
 {
     for (register, value) in registers.iter().enumerate() {
         let number = register as u32;
-        buffer[2 * register] = word_of(LOW_HALF, number, *value & MOST_HALF);
-        buffer[2 * register + 1] = word_of(HIGH_HALF, number, *value >> 16);
+        buffer[2 * register] = word_of(WordKind::LowHalf, number, *value & MOST_HALF);
+        buffer[2 * register + 1] = word_of(WordKind::HighHalf, number, *value >> 16);
     }
 }
 
@@ -45,9 +45,9 @@ pub fn write_image(state: &State, buffer: &mut [u32]) -> Result<(), Refusal>
         return Err(Refusal::Buffer);
     }
     write_registers(&state.registers, buffer);
-    buffer[COUNTER_AT] = word_of(COUNTER, 0, state.counter as u32);
-    buffer[CAUSE_AT] = word_of(CAUSE, 0, cause_number(state.cause));
-    buffer[COUNT_AT] = word_of(COUNT, 0, state.count);
+    buffer[COUNTER_AT] = word_of(WordKind::Counter, 0, state.counter as u32);
+    buffer[CAUSE_AT] = word_of(WordKind::Cause, 0, number_or_0(state.cause));
+    buffer[COUNT_AT] = word_of(WordKind::Count, 0, state.count);
     buffer[END_AT] = END_WORD;
     Ok(())
 }

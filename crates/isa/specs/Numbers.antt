@@ -1,11 +1,12 @@
 -- The number of every kind, fault, cause, refusal and unit.
-use Rattle.std.specs.Prelude.{ℕ, Some, None, Option}
+use Rattle.std.specs.Prelude.{ℕ, cond, Some, None, Ok, Err, Option, Result, ◌==◌}
 use Rattle.isa.specs.declared.words.Kind.{Kind}
 use Rattle.isa.specs.declared.words.Kind.TheVariants as kind
 use Rattle.isa.specs.declared.fault.Fault.{Fault}
 use Rattle.isa.specs.declared.fault.Fault.TheVariants as fault
 use Rattle.isa.specs.declared.fault.Cause.{Cause}
 use Rattle.isa.specs.declared.fault.Cause.TheVariants as cause
+use Rattle.isa.specs.declared.fault.UnknownCause.{UnknownCause}
 use Rattle.isa.specs.declared.refusal.Refusal.{Refusal}
 use Rattle.isa.specs.declared.refusal.Refusal.TheVariants as refusal
 use Rattle.isa.specs.declared.unit.ExecUnit.{ExecUnit}
@@ -40,6 +41,18 @@ abbrev pub cause_number : Cause → ℕ
 cause_number (cause.Fault f) = fault_number f
 cause_number cause.Request = 7
 cause_number cause.Cut = 8
+
+-- the cause of a number; no cause has a number outside 1 to 8
+abbrev pub cause_numbered : ℕ → Result Cause UnknownCause
+cause_numbered n =
+    cond (n == 1) (Ok (cause.Fault fault.DivideByZero))
+    (cond (n == 2) (Ok (cause.Fault fault.Overflow))
+    (cond (n == 3) (Ok (cause.Fault fault.Address))
+    (cond (n == 4) (Ok (cause.Fault fault.Illegal))
+    (cond (n == 5) (Ok (cause.Fault fault.PastEnd))
+    (cond (n == 6) (Ok (cause.Fault fault.Stop))
+    (cond (n == 7) (Ok cause.Request)
+    (cond (n == 8) (Ok cause.Cut) (Err (record { 0 = n })))))))))
 
 -- a cause, or 0 where there is none
 abbrev pub cause_or_0 : Option Cause → ℕ

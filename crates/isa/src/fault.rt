@@ -1,6 +1,6 @@
 // Why an instruction does not run, and why a core stops.
 ghost use Rattle.std.specs.Prelude.{◌≡◌};
-ghost use Rattle.isa.specs.Numbers.{fault_number, cause_number, cause_or_0};
+ghost use Rattle.isa.specs.Numbers.{fault_number, cause_number, cause_numbered};
 
 // What is wrong with an instruction: a step with a fault changes nothing.
 #[derive(Clone, Copy, PartialEq, Eq, Debug)]
@@ -13,11 +13,11 @@ pub enum Fault {
     Stop,
 }
 
-impl Fault {
-    pub fn number(self) -> u32
-        ensures { result ≡ fault_number self }
-    {
-        match self {
+impl From<Fault> for u32 {
+    ghost from_gives = { λ fault number. number ≡ fault_number fault };
+
+    fn from(fault: Fault) -> u32 {
+        match fault {
             Fault::DivideByZero => 1,
             Fault::Overflow => 2,
             Fault::Address => 3,
@@ -36,24 +36,38 @@ pub enum Cause {
     Cut,
 }
 
-impl Cause {
-    pub fn number(self) -> u32
-        ensures { result ≡ cause_number self }
-    {
-        match self {
-            Cause::Fault(fault) => fault.number(),
+impl From<Cause> for u32 {
+    ghost from_gives = { λ cause number. number ≡ cause_number cause };
+
+    fn from(cause: Cause) -> u32 {
+        match cause {
+            Cause::Fault(fault) => u32::from(fault),
             Cause::Request => 7,
             Cause::Cut => 8,
         }
     }
 }
 
-// The number of a cause, or 0 where there is none.
-pub fn cause_number(cause: Option<Cause>) -> u32
-    ensures { result ≡ cause_or_0 cause }
-{
-    match cause {
-        Some(cause) => cause.number(),
-        None => 0,
+// A number that no cause has.
+#[derive(Clone, Copy, PartialEq, Eq, Debug)]
+pub struct UnknownCause(pub u32);
+
+impl TryFrom<u32> for Cause {
+    type Error = UnknownCause;
+
+    ghost try_from_gives = { λ number cause. cause ≡ cause_numbered number };
+
+    fn try_from(number: u32) -> Result<Cause, UnknownCause> {
+        match number {
+            1 => Ok(Cause::Fault(Fault::DivideByZero)),
+            2 => Ok(Cause::Fault(Fault::Overflow)),
+            3 => Ok(Cause::Fault(Fault::Address)),
+            4 => Ok(Cause::Fault(Fault::Illegal)),
+            5 => Ok(Cause::Fault(Fault::PastEnd)),
+            6 => Ok(Cause::Fault(Fault::Stop)),
+            7 => Ok(Cause::Request),
+            8 => Ok(Cause::Cut),
+            _ => Err(UnknownCause(number)),
+        }
     }
 }

@@ -5,6 +5,7 @@
 pub mod compute;
 pub mod fault;
 pub mod memory;
+pub mod number;
 pub mod plain;
 pub mod refusal;
 pub mod unit;

@@ -16,21 +16,15 @@ fn reach(base: u32, offset: u16, many: usize) -> Option<usize>
 pub fn load_word(data: &[u32], base: u32, offset: u16) -> Result<u32, Fault>
     ensures { result ≡ loaded «data».now base offset }
 {
-    match reach(base, offset, data.len()) {
-        Some(at) => Ok(data[at]),
-        None => Err(Fault::Address),
-    }
+    let at = reach(base, offset, data.len()).ok_or(Fault::Address)?;
+    Ok(data[at])
 }
 
 pub fn store_word(data: &mut [u32], base: u32, offset: u16, word: u32) -> Result<(), Fault>
     ensures answer { result ≡ verdict (stored «data».old base offset word) }
     ensures leaves { «data».new ≡ value_or «data».old (stored «data».old base offset word) }
 {
-    match reach(base, offset, data.len()) {
-        Some(at) => {
-            data[at] = word;
-            Ok(())
-        }
-        None => Err(Fault::Address),
-    }
+    let at = reach(base, offset, data.len()).ok_or(Fault::Address)?;
+    data[at] = word;
+    Ok(())
 }

@@ -10,7 +10,7 @@ use crate::memory::store_word;
 use crate::words::{Kind, read_word};
 
 // Sixteen registers and the counter; program and data words are lent to each step.
-#[derive(Clone, Copy)]
+#[derive(Clone, Copy, PartialEq, Eq, Debug)]
 pub struct PlainMachine {
     pub registers: [u32; 16],
     pub counter: usize,

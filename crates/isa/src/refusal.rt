@@ -34,11 +34,11 @@ pub enum Refusal {
     NotAnInstruction,
 }
 
-impl Refusal {
-    pub fn number(self) -> u32
-        ensures { result ≡ refusal_number self }
-    {
-        match self {
+impl From<Refusal> for u32 {
+    ghost from_gives = { λ refusal number. number ≡ refusal_number refusal };
+
+    fn from(refusal: Refusal) -> u32 {
+        match refusal {
             Refusal::Delay => 1,
             Refusal::Capacity => 2,
             Refusal::Program => 3,

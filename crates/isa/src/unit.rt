@@ -5,7 +5,7 @@ ghost use Rattle.isa.specs.Numbers.{unit_number};
 // How many units there are: each has a delay of its own.
 pub const UNITS: usize = 4;
 
-#[derive(Clone, Copy)]
+#[derive(Clone, Copy, PartialEq, Eq, Debug)]
 pub enum ExecUnit {
     Short,
     Multiply,
@@ -13,12 +13,12 @@ pub enum ExecUnit {
     Memory,
 }
 
-impl ExecUnit {
-    // The unit's place in a list of delays.
-    pub fn number(self) -> usize
-        ensures { result ≡ unit_number self }
-    {
-        match self {
+// The unit's place in a list of delays.
+impl From<ExecUnit> for usize {
+    ghost from_gives = { λ unit place. place ≡ unit_number unit };
+
+    fn from(unit: ExecUnit) -> usize {
+        match unit {
             ExecUnit::Short => 0,
             ExecUnit::Multiply => 1,
             ExecUnit::Divide => 2,

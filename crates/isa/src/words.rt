@@ -22,11 +22,11 @@ pub enum Kind {
     BranchUnequal,
 }
 
-impl Kind {
-    pub fn number(self) -> u32
-        ensures { result ≡ kind_number self }
-    {
-        self as u32
+impl From<Kind> for u32 {
+    ghost from_gives = { λ kind number. number ≡ kind_number kind };
+
+    fn from(kind: Kind) -> u32 {
+        kind as u32
     }
 }
 
@@ -91,7 +91,7 @@ pub fn write_word(kind: Kind, d: u8, a: u8, b: u8, n: u16) -> Result<u32, Refusa
         return Err(Refusal::NotAnInstruction);
     }
     Ok(
-        (kind.number() << 28)
+        (u32::from(kind) << 28)
             + ((d as u32) << 24)
             + ((a as u32) << 20)
             + ((b as u32) << 16)

@@ -9,7 +9,7 @@ returns-then-value-most c =
     let m : bit_and c.args.word 16777215 ≡ c.args.word % 2 ^ 24 = and_mask c.args.word 24 in
     record { answer = grind (arith, nat_tests); within = omega arith }
 
-pub returns-else-word-kind : goal.returns-else-word-kind
-returns-else-word-kind c =
+pub returns-else-word-from : goal.returns-else-word-from
+returns-else-word-from c =
     let m : bit_and c.args.word 16777215 ≡ c.args.word % 2 ^ 24 = and_mask c.args.word 24 in
     record { answer = grind (arith, nat_tests); within = tt }
