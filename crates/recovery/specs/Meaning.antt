@@ -5,10 +5,9 @@ use Rattle.recovery.specs.declared.Status.{Status}
 use Rattle.recovery.specs.declared.Status.TheVariants.{Pending, Done, Faulted}
 use Rattle.recovery.specs.declared.Timing.{Timing}
 use Rattle.recovery.specs.declared.Timing.TheVariants.{Early, Late}
-use Rattle.recovery.specs.declared.Admitted.{Admitted}
-use Rattle.recovery.specs.declared.Admitted.TheVariants.{Awaited, Full, Tagged}
-use Rattle.recovery.specs.declared.Retired.{Retired}
-use Rattle.recovery.specs.declared.Retired.TheVariants as retired
+use Rattle.recovery.specs.declared.AdmitError.{AdmitError}
+use Rattle.recovery.specs.declared.AdmitError.TheVariants.{Awaited, Full}
+use Rattle.recovery.specs.declared.Trap.{Trap}
 use Rattle.recovery.specs.Search.{last_of}
 
 -- an instruction in flight: its tag, its counter, its destination, if any, and what it has come to
@@ -109,16 +108,16 @@ has_tag t (e ∷ es) = e.tag == t || has_tag t es
 abbrev pub full : Meaning → Bool
 full m = nat_le m.capacity (length m.flight)
 
-abbrev pub admit_answer : Meaning → Option ℕ → ℕ → Admitted
-admit_answer m d t = cond (awaited_destination m d) Awaited (cond (full m) Full (Tagged t))
+abbrev pub admit_answer : Meaning → Option ℕ → ℕ → Result ℕ AdmitError
+admit_answer m d t = cond (awaited_destination m d) (Err Awaited) (cond (full m) (Err Full) (Ok t))
 
 abbrev pub admit_leaves : Meaning → ℕ → Option ℕ → ℕ → Meaning
 admit_leaves m c d t = cond (awaited_destination m d) m (cond (full m) m (with_flight m (m.flight ++ (new_entry t c d ∷ []))))
 
 -- what admit answers and leaves, by the tag that the scheme chose: a number from 0 to 255 that no entry in flight has
-pub record Admits (m : Meaning) (c : ℕ) (d : Option ℕ) (r : Admitted) (n : Meaning) : Type 0 where
+pub record Admits (m : Meaning) (c : ℕ) (d : Option ℕ) (r : Result ℕ AdmitError) (n : Meaning) : Type 0 where
   pub tag : ℕ
-  pub free : r ≡ Tagged tag → (tag < 256) × (has_tag tag m.flight ≡ false)
+  pub free : r ≡ Ok tag → (tag < 256) × (has_tag tag m.flight ≡ false)
   pub answer : r ≡ admit_answer m d tag
   pub leaves : n ≡ admit_leaves m c d tag
 
@@ -181,16 +180,16 @@ oldest_answer m = oldest_of m.flight
 
 -- retire
 
-abbrev pub retire_status : ℕ → Status → Retired
-retire_status c Pending = retired.Nothing
-retire_status c (Done w) = retired.Settled c
-retire_status c (Faulted f) = retired.Faulted c f
+abbrev pub retire_status : ℕ → Status → Result (Option ℕ) Trap
+retire_status c Pending = Ok None
+retire_status c (Done w) = Ok (Some c)
+retire_status c (Faulted f) = Err (record { counter = c; fault = f })
 
-abbrev pub retire_flight : List Entry → Retired
-retire_flight [] = retired.Nothing
+abbrev pub retire_flight : List Entry → Result (Option ℕ) Trap
+retire_flight [] = Ok None
 retire_flight (e ∷ es) = retire_status e.counter e.status
 
-abbrev pub retire_answer : Meaning → Retired
+abbrev pub retire_answer : Meaning → Result (Option ℕ) Trap
 retire_answer m = retire_flight m.flight
 
 -- a word goes to its destination, if any

@@ -12,48 +12,42 @@ pub mod slots;
 use isa::fault::Fault;
 
 // When a source may be read: early, as soon as the youngest entry that names it is done; late, once no entry names it.
-#[derive(Clone, Copy)]
+#[derive(Clone, Copy, PartialEq, Eq, Debug)]
 pub enum Timing {
     Early,
     Late,
 }
 
 // What an entry in flight has come to.
-#[derive(Clone, Copy)]
+#[derive(Clone, Copy, PartialEq, Eq, Debug)]
 pub enum Status {
     Pending,
     Done(u32),
     Faulted(Fault),
 }
 
-// What admit answers: the destination is awaited, the flight is full, or the new entry's tag.
-#[derive(Clone, Copy)]
-pub enum Admitted {
+// Why no entry is appended: the destination is awaited, or the flight is full.
+#[derive(Clone, Copy, PartialEq, Eq, Debug)]
+pub enum AdmitError {
     Awaited,
     Full,
-    Tagged(u8),
 }
 
-// What retire answers: nothing, the counter of the entry that is settled, or that of a faulted one with its fault.
-#[derive(Clone, Copy)]
-pub enum Retired {
-    Nothing,
-    Settled(u16),
-    Faulted(u16, Fault),
+// The oldest entry is faulted: its counter and its fault.
+#[derive(Clone, Copy, PartialEq, Eq, Debug)]
+pub struct Trap {
+    pub counter: u16,
+    pub fault: Fault,
 }
 
 pub trait Recovery: Sized {
     // the scheme's mark: one for all its values
     const MARK: Timing;
 
-    ghost timing: { Timing };
+    ghost MARK: { Timing };
 
     // what a value of the scheme means: sixteen settled registers, a capacity, and the flight, oldest first
     ghost meaning: { Self → Meaning };
-
-    // The constant, tied to the ghost member: a clause cannot read a constant of the trait.
-    fn timing_mark() -> Timing
-        ensures { result ≡ timing };
 
     // A scheme never started: capacity 1, zero registers, nothing in flight.
     fn fresh() -> Self
@@ -69,8 +63,8 @@ pub trait Recovery: Sized {
         ensures answer { result ≡ place_answer (meaning self.old) register }
         ensures leaves { meaning self.new ≡ place_leaves (meaning self.old) register word };
 
-    // Appends an entry, unless its destination is awaited or the flight is full.
-    fn admit(&mut self, counter: u16, destination: Option<u8>) -> Admitted
+    // Appends an entry and answers its tag, unless its destination is awaited or the flight is full.
+    fn admit(&mut self, counter: u16, destination: Option<u8>) -> Result<u8, AdmitError>
         ensures { Admits (meaning self.old) counter destination result (meaning self.new) };
 
     // Turns the pending entry of a tag done or faulted; without one it answers no.
@@ -80,14 +74,14 @@ pub trait Recovery: Sized {
 
     // The newest word of a source; none where it is awaited.
     fn look(&self, register: u8) -> Option<u32>
-        ensures { result ≡ look_answer timing (meaning self.now) register };
+        ensures { result ≡ look_answer MARK (meaning self.now) register };
 
     // The counter of the oldest entry, if any.
     fn oldest(&self) -> Option<u16>
         ensures { result ≡ oldest_answer (meaning self.now) };
 
-    // Settles the oldest entry where it is done; a faulted one is answered and stays.
-    fn retire(&mut self) -> Retired
+    // Settles the oldest entry where it is done, and answers its counter; a faulted one is answered and stays.
+    fn retire(&mut self) -> Result<Option<u16>, Trap>
         ensures answer { result ≡ retire_answer (meaning self.old) }
         ensures leaves { meaning self.new ≡ retire_leaves (meaning self.old) };
 

@@ -14,12 +14,5 @@ pub trait Naming<K> {
 pub fn youngest<K: Copy, R: Naming<K>>(records: &[R], key: K) -> Option<usize>
     ensures { result ≡ last_index (λ x. R.names x key) records.now }
 {
-    let mut i = records.len();
-    while i > 0 {
-        i -= 1;
-        if records[i].is_for(key) {
-            return Some(i);
-        }
-    }
-    None
+    records.iter().rposition(|record| record.is_for(key))
 }

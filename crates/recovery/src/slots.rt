@@ -8,7 +8,7 @@ use crate::search::Naming;
 use isa::fault::Fault;
 
 // One entry in flight. Its tag is not stored: the tags count up, modulo 256, from the oldest entry's.
-#[derive(Clone, Copy)]
+#[derive(Clone, Copy, PartialEq, Eq, Debug)]
 pub struct Slot {
     pub counter: u16,
     pub destination: Option<u8>,
@@ -19,10 +19,7 @@ impl Naming<u8> for Slot {
     ghost names = { slot_names };
 
     fn is_for(&self, key: u8) -> bool {
-        match self.destination {
-            Some(register) => register == key,
-            None => false,
-        }
+        self.destination == Some(key)
     }
 }
 
@@ -37,12 +34,14 @@ pub fn status_at_first(destination: Option<u8>) -> Status
 }
 
 // The status that a result gives.
-pub fn status_by(outcome: Result<u32, Fault>) -> Status
-    ensures { result ≡ ended outcome }
-{
-    match outcome {
-        Ok(word) => Status::Done(word),
-        Err(fault) => Status::Faulted(fault),
+impl From<Result<u32, Fault>> for Status {
+    ghost from_gives = { λ outcome status. status ≡ ended outcome };
+
+    fn from(outcome: Result<u32, Fault>) -> Status {
+        match outcome {
+            Ok(word) => Status::Done(word),
+            Err(fault) => Status::Faulted(fault),
+        }
     }
 }
 
