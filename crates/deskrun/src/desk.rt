@@ -98,7 +98,7 @@ fn tell_on<S: Recovery + Drop>(
     data: &mut [u32],
     calls: &[Call],
 ) -> Result<String, AllocError>
-    ensures { IfOk result (λ s. TellsOn S.timing delays capacity program.now «data».old calls.now (string_bytes s)) }
+    ensures { IfOk result (λ s. TellsOn S.MARK delays capacity program.now «data».old calls.now (string_bytes s)) }
 {
     let Some(cycles) = cycles_asked(calls) else {
         return Err(AllocError);

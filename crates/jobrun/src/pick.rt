@@ -49,7 +49,7 @@ fn run_on<S: Recovery + Drop>(
     cycles: u32,
 ) -> Result<String, AllocError>
     requires { (length program.now ≤ 8192) × (length «data».old ≤ 8192) }
-    ensures { IfOk result (λ s. PrintsBy S.timing (order delays capacity program.now «data».old cycles) (refused (order delays capacity program.now «data».old cycles)) (string_bytes s)) }
+    ensures { IfOk result (λ s. PrintsBy S.MARK (order delays capacity program.now «data».old cycles) (refused (order delays capacity program.now «data».old cycles)) (string_bytes s)) }
 {
     let mut core: Core<S> = Core::new();
     if let Err(refusal) = core.load(delays, capacity, program.len() as u32, data.len() as u32) {

@@ -15,8 +15,8 @@ use recovery::Recovery;
 
 // The image of a core as words.
 pub(crate) fn image<S: Recovery>(core: &Core<S>) -> Result<[u32; IMAGE_WORDS], Refusal>
-    ensures value { result ≡ image_of S.timing (machine_of S.meaning core.now) }
-    ensures reads { is_ok result ≡ true → read_words (image_words (imaged S.timing (machine_of S.meaning core.now))) ≡ Ok (imaged S.timing (machine_of S.meaning core.now)) }
+    ensures value { result ≡ image_of S.MARK (machine_of S.meaning core.now) }
+    ensures reads { is_ok result ≡ true → read_words (image_words (imaged S.MARK (machine_of S.meaning core.now))) ≡ Ok (imaged S.MARK (machine_of S.meaning core.now)) }
 {
     let mut words = [0; IMAGE_WORDS];
     core.write_image(&mut words)?;
@@ -59,7 +59,7 @@ fn run<S: Recovery>(
     from: usize,
 ) -> Result<usize, Refusal>
     requires { from ≤ length records.old }
-    ensures ran { RanInto S.timing program.now records.old from limit (machine_of S.meaning core.old) «data».old result records.new (machine_of S.meaning core.new) «data».new }
+    ensures ran { RanInto S.MARK program.now records.old from limit (machine_of S.meaning core.old) «data».old result records.new (machine_of S.meaning core.new) «data».new }
     ensures sound { Sound (machine_of S.meaning core.old) → Sound (machine_of S.meaning core.new) }
 {
     let most = limit.min(records.len() - from);
@@ -79,7 +79,7 @@ pub(crate) fn make<S: Recovery>(
     copied: usize,
 ) -> Answer
     requires { (used ≤ length records.old) × (copied ≤ length copies.old) }
-    ensures made { MadeInto S.timing program.now (words_known last.now) records.old used copies.old copied (machine_of S.meaning core.old) «data».old call.now result records.new copies.new (machine_of S.meaning core.new) «data».new }
+    ensures made { MadeInto S.MARK program.now (words_known last.now) records.old used copies.old copied (machine_of S.meaning core.old) «data».old call.now result records.new copies.new (machine_of S.meaning core.new) «data».new }
     ensures sound { Sound (machine_of S.meaning core.old) → Sound (machine_of S.meaning core.new) }
 {
     match call {

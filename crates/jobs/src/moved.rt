@@ -35,7 +35,7 @@ pub fn move_job<A: Recovery, B: Recovery>(
     data: &mut [u32],
     records: &mut [CycleRecord],
 ) -> Result<Moved, Refusal>
-    ensures moving { Moving A.timing B.timing program.now (setup_for delays capacity program.now «data».old) (machine_of A.meaning scanner.now) (machine_of B.meaning spare.old) «data».old records.old result (machine_of B.meaning spare.new) «data».new records.new }
+    ensures moving { Moving A.MARK B.MARK program.now (setup_for delays capacity program.now «data».old) (machine_of A.meaning scanner.now) (machine_of B.meaning spare.old) «data».old records.old result (machine_of B.meaning spare.new) «data».new records.new }
     ensures same { is_err result ≡ true → spare.new ≡ spare.old }
 {
     let report = scanner.report()?;

@@ -74,7 +74,7 @@ fn make_all<S: Recovery>(
     copies: &mut [u32],
 ) -> Totals
     requires { (length calls.now ≤ length answers.old) × ((length records.old < 2 ^ 64) × (length copies.old < 2 ^ 64)) }
-    ensures plays { Plays S.timing program.now calls.now answers.old records.old copies.old (machine_of S.meaning core.old) «data».old result answers.new records.new copies.new (machine_of S.meaning core.new) «data».new }
+    ensures plays { Plays S.MARK program.now calls.now answers.old records.old copies.old (machine_of S.meaning core.old) «data».old result answers.new records.new copies.new (machine_of S.meaning core.new) «data».new }
     ensures sound { Sound (machine_of S.meaning core.old) → Sound (machine_of S.meaning core.new) }
 {
     let mut totals = Totals::none();
@@ -124,7 +124,7 @@ pub fn play<S: Recovery>(
     records: &mut [CycleRecord],
     copies: &mut [u32],
 ) -> Result<Totals, NotPlayed>
-    ensures outcome { Outcomes S.timing program.now setup calls.now answers.old records.old copies.old (machine_of S.meaning core.old) «data».old result answers.new records.new copies.new (machine_of S.meaning core.new) «data».new }
+    ensures outcome { Outcomes S.MARK program.now setup calls.now answers.old records.old copies.old (machine_of S.meaning core.old) «data».old result answers.new records.new copies.new (machine_of S.meaning core.new) «data».new }
     ensures same { is_err result ≡ true → core.new ≡ core.old }
     ensures sound { is_ok result ≡ true → Sound (machine_of S.meaning core.new) }
 {

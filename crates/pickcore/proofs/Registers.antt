@@ -1,5 +1,5 @@
 -- With nothing in flight, the words that look answers are the settled ones.
-use Rattle.std.proofs.Common.{◌≡◌, ℕ, ◌<◌, true, false, cond, [], length, get_or, Some, None, sym, ap, ◌∙◌}
+use Rattle.std.proofs.Common.{◌≡◌, ℕ, ◌<◌, Bool, true, false, cond, List, [], length, get_or, replicate, Some, None, sym, ap, ◌∙◌}
 use Rattle.std.proofs.lemmas.List.FromFn.{fill_by_all}
 use Rattle.std.proofs.lemmas.Bool.{lt-ltb}
 use Rattle.recovery.specs.declared.Timing.{Timing}
@@ -17,3 +17,10 @@ look_settled k m r e l = ap (λ es. look_answer k (record { settled = m.settled;
 pub looked_settled : (k : Timing) (m : Meaning) → m.flight ≡ [] → length m.settled ≡ 16 → looked k m ≡ m.settled
 looked_settled k m e l =
     sym (fill_by_all (λ r. word_or_0 (look_answer k m r)) m.settled 16 0 l (λ r h. sym (ap word_or_0 (look_settled k m r e h))))
+
+-- the answer of a stopped core, by the words that were looked at
+pub registers_value : (k : Timing) (m : Meaning) (running : Bool) (ws : List ℕ) → ws ≡ looked k m → running ≡ false → ◌≡◌ {A = List ℕ × ℕ} (ws, 0) (cond running (replicate 16 0, 6) (looked k m, 0))
+registers_value k m running ws e h = ap (λ xs. (xs, 0)) e ∙ sym (ap (λ b. cond {A = List ℕ × ℕ} b (replicate 16 0, 6) (looked k m, 0)) h)
+
+pub registers_settled : (k : Timing) (m : Meaning) (ws : List ℕ) → ws ≡ looked k m → m.flight ≡ [] → length m.settled ≡ 16 → ◌≡◌ {A = List ℕ × ℕ} (ws, 0) (m.settled, 0)
+registers_settled k m ws e f l = ap (λ xs. (xs, 0)) (e ∙ looked_settled k m f l)

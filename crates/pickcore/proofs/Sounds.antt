@@ -1,5 +1,5 @@
 -- Every call keeps a core sound.
-use Rattle.std.proofs.Common.{◌≡◌, ℕ, suc, ◌+◌, ◌-◌, ◌<◌, ◌≤◌, Bool, true, false, cond, not, ◌&&◌, eqb, ltb, leb, List, [], ◌∷◌, ◌++◌, length, get_or, drop, set, replicate, Some, None, Ok, Err, Option, sym, refl, ap, ◌∙◌, subst, arith, lit≤, length-append, length-set}
+use Rattle.std.proofs.Common.{◌≡◌, ℕ, suc, ◌+◌, ◌-◌, ◌<◌, ◌≤◌, Bool, true, false, cond, not, ◌&&◌, eqb, ltb, leb, List, [], ◌∷◌, ◌++◌, length, get_or, drop, set, replicate, Some, None, Ok, Err, Option, sym, refl, ap, ◌∙◌, subst, arith, lit≤, length-append, length-set, Result}
 use Rattle.std.proofs.lemmas.Bool.{leb-false, ltb-true, and_parts, eqb-true}
 use Rattle.isa.specs.declared.fault.Fault.{Fault}
 use Rattle.isa.specs.declared.fault.Fault.TheVariants as fault
@@ -15,8 +15,7 @@ use Rattle.isa.specs.Table.{Instr, halt, store, work, jump, fetched, instruction
 use Rattle.recovery.specs.declared.Status.{Status}
 use Rattle.recovery.specs.declared.Status.TheVariants.{Pending, Done, Faulted}
 use Rattle.recovery.specs.declared.Timing.{Timing}
-use Rattle.recovery.specs.declared.Retired.{Retired}
-use Rattle.recovery.specs.declared.Retired.TheVariants as retired
+use Rattle.recovery.specs.declared.Trap.{Trap}
 use Rattle.recovery.specs.Meaning.{Meaning, Entry, has_tag, is_pending, ended, put, new_entry, retire_answer, retire_flight, retire_status, retire_leaves, settle_oldest, settle}
 use Rattle.pickcore.specs.declared.record.Ending.{Ending}
 use Rattle.pickcore.specs.declared.record.Ending.TheVariants.{Issued, Stored, Held, Stopped}
@@ -87,10 +86,10 @@ length_put ws (Some d) w = length-set ws d w
 abbrev settled_by : Pipe → Meaning → Pipe
 settled_by p m = record { scheme = m; stages = p.stages; next = p.next; count = p.count + 1 }
 
-settled_healthy : (n c : ℕ) (p : Pipe) → retired.Settled c ≡ retire_answer p.scheme → Healthy n p → Healthy n (settled p)
+settled_healthy : (n c : ℕ) (p : Pipe) → Ok (Some c) ≡ retire_answer p.scheme → Healthy n p → Healthy n (settled p)
 settled_healthy n c p a h = go p.scheme.flight a h.tied h.counters h.paced
   where
-    one : (e : Entry) (es : List Entry) (y : Status) → e.status ≡ y → retired.Settled c ≡ retire_status e.counter y → Tied (e ∷ es) p.stages → Counters (e ∷ es) → p.count + suc (length es) ≤ n
+    one : (e : Entry) (es : List Entry) (y : Status) → e.status ≡ y → Ok (Some c) ≡ retire_status e.counter y → Tied (e ∷ es) p.stages → Counters (e ∷ es) → p.count + suc (length es) ≤ n
         → Healthy n (settled_by p (settle p.scheme es e.destination y))
     one e es Pending s b k cs l = let z : ◌≡◌ {A = ℕ} 0 1 = cc in absurd (omega arith)
     one e es (Faulted f) s b k cs l = let z : ◌≡◌ {A = ℕ} 0 1 = cc in absurd (omega arith)
@@ -103,7 +102,7 @@ settled_healthy n c p a h = go p.scheme.flight a h.tied h.counters h.paced
       stages = h.stages;
     }
 
-    go : (es : List Entry) → retired.Settled c ≡ retire_flight es → Tied es p.stages → Counters es → p.count + length es ≤ n → Healthy n (settled_by p (settle_oldest p.scheme es))
+    go : (es : List Entry) → Ok (Some c) ≡ retire_flight es → Tied es p.stages → Counters es → p.count + length es ≤ n → Healthy n (settled_by p (settle_oldest p.scheme es))
     go [] b k cs l = let z : ◌≡◌ {A = ℕ} 0 1 = cc in absurd (omega arith)
     go (e ∷ es) b k cs l = one e es e.status refl b k cs l
 
@@ -193,26 +192,30 @@ way_fine n s t p ws i x w f h (jumped {rs = rs} {f = g} xs e) =
 
 -- a whole cycle
 
-faulted_counter : (c : ℕ) (f : Fault) (es : List Entry) → retired.Faulted c f ≡ retire_flight es → Counters es → c ≤ 65535
+faulted_counter : (c : ℕ) (f : Fault) (es : List Entry) → Err (record { counter = c; fault = f }) ≡ retire_flight es → Counters es → c ≤ 65535
 faulted_counter c f [] a k = let z : ◌≡◌ {A = ℕ} 0 1 = cc in absurd (omega arith)
 faulted_counter c f (e ∷ es) a k = one e.status a
   where
-    one : (y : Status) → retired.Faulted c f ≡ retire_status e.counter y → c ≤ 65535
+    one : (y : Status) → Err (record { counter = c; fault = f }) ≡ retire_status e.counter y → c ≤ 65535
     one Pending b = let z : ◌≡◌ {A = ℕ} 0 1 = cc in absurd (omega arith)
     one (Done w) b = let z : ◌≡◌ {A = ℕ} 0 1 = cc in absurd (omega arith)
-    one (Faulted g) b = let q : c ≡ e.counter = cc in let l = k.0 in omega arith
+    one (Faulted g) b =
+        let q : ◌≡◌ {A = Trap} (record { counter = c; fault = f }) (record { counter = e.counter; fault = g }) = cc in
+        let r : c ≡ e.counter = ap (λ (x : Trap). x.counter) q in
+        let l = k.0 in
+        omega arith
 
 module _ (s : Setting) (narrow : (c : ℕ) → Narrow c (s.code c)) (b : Bool) (t : ℕ) (ws : List ℕ) where
   front_fine : (n : ℕ) (p : Pipe) → has_tag t p.scheme.flight ≡ false → Healthy n p → Fine (n + 1) (front s b t p ws).pipe (front s b t p ws).ending
   front_fine n p f h = way_fine n s t p ws (s.code p.next) (front s b t p ws) (narrow p.next) f h (front_way s b t p ws)
 
-  retiring_fine : (n : ℕ) (p : Pipe) (r : Retired) → r ≡ retire_answer p.scheme → has_tag t (retire_leaves p.scheme).flight ≡ false → Healthy n p
+  retiring_fine : (n : ℕ) (p : Pipe) (r : Result (Option ℕ) Trap) → r ≡ retire_answer p.scheme → has_tag t (retire_leaves p.scheme).flight ≡ false → Healthy n p
       → Fine (n + 1) (retiring s b t p ws r).pipe (retiring s b t p ws r).ending
   unfolding retiring
-  retiring_fine n p retired.Nothing a f h = front_fine n p (subst (λ (m : Meaning). has_tag t m.flight ≡ false) (stays p.scheme retired.Nothing a refl) f) h
-  retiring_fine n p (retired.Settled c) a f h = front_fine n (settled p) f (settled_healthy n c p a h)
-  retiring_fine n p (retired.Faulted c g) a f h =
-      emptied_empty (n + 1) c p (faulted_counter c g p.scheme.flight a h.counters)
+  retiring_fine n p (Ok None) a f h = front_fine n p (subst (λ (m : Meaning). has_tag t m.flight ≡ false) (stays p.scheme (Ok None) a refl) f) h
+  retiring_fine n p (Ok (Some c)) a f h = front_fine n (settled p) f (settled_healthy n c p a h)
+  retiring_fine n p (Err x) a f h =
+      emptied_empty (n + 1) x.counter p (faulted_counter x.counter x.fault p.scheme.flight a h.counters)
       (record { tied = h.tied; paced = let k = h.paced in omega arith; next = h.next; counters = h.counters; registers = h.registers; stages = h.stages })
 
   pub cycle_fine : (n : ℕ) (p : Pipe) → has_tag t (flight_at_admission p) ≡ false → Healthy n p → Fine (n + 1) (cycle s b t p ws).pipe (cycle s b t p ws).ending
@@ -228,11 +231,11 @@ way_rise s t p ws i x (wrote vs e none) = omega arith
 way_rise s t p ws i x (issued d r e o) = omega arith
 way_rise s t p ws i x (jumped xs e) = omega arith
 
-retiring_rise : (s : Setting) (b : Bool) (t : ℕ) (p : Pipe) (ws : List ℕ) (r : Retired) → (retiring s b t p ws r).pipe.count ≤ p.count + 2
+retiring_rise : (s : Setting) (b : Bool) (t : ℕ) (p : Pipe) (ws : List ℕ) (r : Result (Option ℕ) Trap) → (retiring s b t p ws r).pipe.count ≤ p.count + 2
 unfolding retiring
-retiring_rise s b t p ws retired.Nothing = let k = way_rise s t p ws (s.code p.next) (front s b t p ws) (front_way s b t p ws) in omega arith
-retiring_rise s b t p ws (retired.Settled c) = let k = way_rise s t (settled p) ws (s.code p.next) (front s b t (settled p) ws) (front_way s b t (settled p) ws) in omega arith
-retiring_rise s b t p ws (retired.Faulted c f) = omega arith
+retiring_rise s b t p ws (Ok None) = let k = way_rise s t p ws (s.code p.next) (front s b t p ws) (front_way s b t p ws) in omega arith
+retiring_rise s b t p ws (Ok (Some c)) = let k = way_rise s t (settled p) ws (s.code p.next) (front s b t (settled p) ws) (front_way s b t (settled p) ws) in omega arith
+retiring_rise s b t p ws (Err x) = omega arith
 
 pub cycle_rise : (s : Setting) (b : Bool) (t : ℕ) (p : Pipe) (ws : List ℕ) → (cycle s b t p ws).pipe.count ≤ p.count + 2
 unfolding cycle

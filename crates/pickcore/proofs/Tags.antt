@@ -1,11 +1,10 @@
 -- A tag that no entry in flight has; and a cycle that admits nothing does not depend on the tag.
-use Rattle.std.proofs.Common.{◌≡◌, ℕ, ◌+◌, ◌<◌, max, Bool, true, false, cond, ◌||◌, List, [], ◌∷◌, ◌++◌, Some, None, Option, Result, sym, refl, ap, ◌∙◌, ⊎_elim, arith}
+use Rattle.std.proofs.Common.{◌≡◌, ℕ, ◌+◌, ◌<◌, max, Bool, true, false, cond, ◌||◌, List, [], ◌∷◌, ◌++◌, Some, None, Option, Result, sym, refl, ap, ◌∙◌, ⊎_elim, arith, Ok, Err}
 use Rattle.std.proofs.lemmas.Bool.{ne_eqb, cases_Bool}
 use Rattle.isa.specs.declared.fault.Fault.{Fault}
 use Rattle.isa.specs.Table.{Instr, halt, store, work, jump}
-use Rattle.recovery.specs.declared.Admitted.TheVariants.{Awaited, Full, Tagged}
-use Rattle.recovery.specs.declared.Retired.{Retired}
-use Rattle.recovery.specs.declared.Retired.TheVariants as retired
+use Rattle.recovery.specs.declared.AdmitError.TheVariants.{Awaited, Full}
+use Rattle.recovery.specs.declared.Trap.{Trap}
 use Rattle.recovery.specs.Meaning.{Entry, has_tag, awaited_destination, full, new_entry, with_flight, retire_answer}
 use Rattle.pickcore.specs.declared.stages.Stage.{Stage}
 use Rattle.pickcore.specs.Cycle.{Setting, Pipe, Move, Turn, beside, arrived, moved, settled, entering, working, jumping, admitted, admits, looks, dispatch, front, retiring, cycle, flight_at_admission, issues, Chosen}
@@ -27,7 +26,7 @@ fresh_tag es = (top es + 1, above (top es + 1) es (omega arith))
 module _ (p : Pipe) (d : Option ℕ) (next : ℕ) where
   abbrev admits_by : ℕ → List (Option Stage) → Bool → Bool → Move
   admits_by t stages a f =
-      admitted p (cond a p.scheme (cond f p.scheme (with_flight p.scheme (p.scheme.flight ++ (new_entry t p.next d ∷ []))))) stages next (cond a Awaited (cond f Full (Tagged t)))
+      admitted p (cond a p.scheme (cond f p.scheme (with_flight p.scheme (p.scheme.flight ++ (new_entry t p.next d ∷ []))))) stages next (cond a (Err Awaited) (cond f (Err Full) (Ok t)))
 
   admits_any : (t u : ℕ) (ss ts : List (Option Stage)) (a f : Bool) → issues (admits_by t ss a f).ending ≡ false → admits_by t ss a f ≡ admits_by u ts a f
   admits_any t u ss ts true f h = refl
@@ -61,11 +60,11 @@ unfolding front
 front_same s true p ws t u h = refl
 front_same s false p ws t u h = dispatch_same s p ws (s.code p.next) t u h
 
-retiring_same : (s : Setting) (b : Bool) (p : Pipe) (ws : List ℕ) (r : Retired) (t u : ℕ) → issues (retiring s b t p ws r).ending ≡ false → retiring s b t p ws r ≡ retiring s b u p ws r
+retiring_same : (s : Setting) (b : Bool) (p : Pipe) (ws : List ℕ) (r : Result (Option ℕ) Trap) (t u : ℕ) → issues (retiring s b t p ws r).ending ≡ false → retiring s b t p ws r ≡ retiring s b u p ws r
 unfolding retiring
-retiring_same s b p ws retired.Nothing t u h = front_same s b p ws t u h
-retiring_same s b p ws (retired.Settled c) t u h = front_same s b (settled p) ws t u h
-retiring_same s b p ws (retired.Faulted c f) t u h = refl
+retiring_same s b p ws (Ok None) t u h = front_same s b p ws t u h
+retiring_same s b p ws (Ok (Some c)) t u h = front_same s b (settled p) ws t u h
+retiring_same s b p ws (Err x) t u h = refl
 
 cycle_same : (s : Setting) (b : Bool) (p : Pipe) (ws : List ℕ) (t u : ℕ) → issues (cycle s b t p ws).ending ≡ false → cycle s b t p ws ≡ cycle s b u p ws
 unfolding cycle

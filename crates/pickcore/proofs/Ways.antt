@@ -6,7 +6,7 @@ use Rattle.isa.specs.declared.fault.Cause.TheVariants as cause
 use Rattle.isa.specs.declared.unit.ExecUnit.{ExecUnit}
 use Rattle.isa.specs.Table.{Instr, halt, store, work, jump}
 use Rattle.isa.specs.Plain.{reads}
-use Rattle.recovery.specs.declared.Admitted.TheVariants.{Awaited, Full, Tagged}
+use Rattle.recovery.specs.declared.AdmitError.TheVariants.{Awaited, Full}
 use Rattle.recovery.specs.Meaning.{Meaning, Entry, awaited_destination, full, new_entry, with_flight, oldest_of}
 use Rattle.pickcore.specs.declared.record.Hold.{Hold}
 use Rattle.pickcore.specs.declared.record.Hold.TheVariants as hold
@@ -53,7 +53,7 @@ module _ (s : Setting) (t : ℕ) (p : Pipe) (ws : List ℕ) (i : Instr) where
   -- an admission, by its two tests
   admitted_way : (d : Option ℕ) (stages : List (Option Stage)) (next : ℕ) (a f : Bool)
       → Way s t p ws i (record { ending = Issued p.next; pipe = record { scheme = appended p.scheme (new_entry t p.next d); stages = stages; next = next; count = p.count }; words = ws })
-      → Way s t p ws i (beside ws (admitted p (cond a p.scheme (cond f p.scheme (appended p.scheme (new_entry t p.next d)))) stages next (cond a Awaited (cond f Full (Tagged t)))))
+      → Way s t p ws i (beside ws (admitted p (cond a p.scheme (cond f p.scheme (appended p.scheme (new_entry t p.next d)))) stages next (cond a (Err Awaited) (cond f (Err Full) (Ok t)))))
   admitted_way d stages next true f w = held hold.Destination
   admitted_way d stages next false true w = held hold.Capacity
   admitted_way d stages next false false w = w

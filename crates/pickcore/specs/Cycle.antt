@@ -7,10 +7,9 @@ use Rattle.isa.specs.declared.unit.ExecUnit.{ExecUnit}
 use Rattle.isa.specs.Table.{Instr, halt, store, work, jump}
 use Rattle.isa.specs.Plain.{reads}
 use Rattle.recovery.specs.declared.Timing.{Timing}
-use Rattle.recovery.specs.declared.Admitted.{Admitted}
-use Rattle.recovery.specs.declared.Admitted.TheVariants.{Awaited, Full, Tagged}
-use Rattle.recovery.specs.declared.Retired.{Retired}
-use Rattle.recovery.specs.declared.Retired.TheVariants as retired
+use Rattle.recovery.specs.declared.AdmitError.{AdmitError}
+use Rattle.recovery.specs.declared.AdmitError.TheVariants.{Awaited, Full}
+use Rattle.recovery.specs.declared.Trap.{Trap}
 use Rattle.recovery.specs.Meaning.{Meaning, Entry, has_tag, deliver_leaves, look_answer, oldest_answer, admit_answer, admit_leaves, retire_answer, retire_leaves, backed_out}
 use Rattle.pickcore.specs.declared.record.Hold.{Hold}
 use Rattle.pickcore.specs.declared.record.Hold.TheVariants as hold
@@ -96,10 +95,10 @@ putting p ws rs f None = writes p ws (f (reads p.scheme.settled rs) ws)
 
 -- Rules 6 and 7: what admit says of the new entry, whose tag is t
 
-abbrev pub admitted : Pipe → Meaning → List (Option Stage) → ℕ → Admitted → Move
-admitted p m stages next Awaited = holds p hold.Destination
-admitted p m stages next Full = holds p hold.Capacity
-admitted p m stages next (Tagged t) = record { ending = Issued p.next; pipe = record { scheme = m; stages = stages; next = next; count = p.count } }
+abbrev pub admitted : Pipe → Meaning → List (Option Stage) → ℕ → Result ℕ AdmitError → Move
+admitted p m stages next (Err Awaited) = holds p hold.Destination
+admitted p m stages next (Err Full) = holds p hold.Capacity
+admitted p m stages next (Ok t) = record { ending = Issued p.next; pipe = record { scheme = m; stages = stages; next = next; count = p.count } }
 
 abbrev pub admits : ℕ → Pipe → Option ℕ → List (Option Stage) → ℕ → Move
 admits t p d stages next = admitted p (admit_leaves p.scheme p.next d t) stages next (admit_answer p.scheme d t)
@@ -144,20 +143,20 @@ front s false t p ws = dispatch s t p ws (s.code p.next)
 
 -- Rule 3, by what retire answers; then the others
 
-unfoldable pub retiring : Setting → Bool → ℕ → Pipe → List ℕ → Retired → Turn
-retiring s requested t p ws retired.Nothing = front s requested t p ws
-retiring s requested t p ws (retired.Settled c) = front s requested t (settled p) ws
-retiring s requested t p ws (retired.Faulted c f) = beside ws (stops p (cause.Fault f) c)
+unfoldable pub retiring : Setting → Bool → ℕ → Pipe → List ℕ → Result (Option ℕ) Trap → Turn
+retiring s requested t p ws (Ok None) = front s requested t p ws
+retiring s requested t p ws (Ok (Some c)) = front s requested t (settled p) ws
+retiring s requested t p ws (Err x) = beside ws (stops p (cause.Fault x.fault) x.counter)
 
 -- one cycle, where t is the tag that admit would choose
 unfoldable pub cycle : Setting → Bool → ℕ → Pipe → List ℕ → Turn
 cycle s requested t p ws = retiring s requested t (moved (arrived p)) ws (retire_answer (moved (arrived p)).scheme)
 
 -- the counter that retires in a cycle, if any
-abbrev pub counter_of : Retired → Option ℕ
-counter_of retired.Nothing = None
-counter_of (retired.Settled c) = Some c
-counter_of (retired.Faulted c f) = None
+abbrev pub counter_of : Result (Option ℕ) Trap → Option ℕ
+counter_of (Ok None) = None
+counter_of (Ok (Some c)) = Some c
+counter_of (Err x) = None
 
 abbrev pub retires : Pipe → Option ℕ
 retires p = counter_of (retire_answer (moved (arrived p)).scheme)

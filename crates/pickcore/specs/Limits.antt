@@ -1,5 +1,6 @@
 -- What load accepts.
-use Rattle.std.specs.Prelude.{ℕ, Bool, true, ◌&&◌, List, [], ◌∷◌, nat_le}
+use Rattle.std.specs.Prelude.{ℕ, Bool, ◌&&◌, List, nat_le}
+use Rattle.std.specs.List.{list_all}
 
 -- a delay, and a capacity, is a number from 1 to 16
 abbrev pub one_to_sixteen : ℕ → Bool
@@ -7,8 +8,7 @@ one_to_sixteen n = nat_le 1 n && nat_le n 16
 
 -- every delay is one
 abbrev pub delays_fit : List ℕ → Bool
-delays_fit [] = true
-delays_fit (d ∷ ds) = one_to_sixteen d && delays_fit ds
+delays_fit ds = list_all one_to_sixteen ds
 
 -- a program has from 1 to 4,096 words
 abbrev pub program_fits : ℕ → Bool

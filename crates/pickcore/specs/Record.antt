@@ -1,5 +1,7 @@
 -- The record of a cycle, and the number of every hold.
-use Rattle.std.specs.Prelude.{ℕ, Some, None, Option}
+use Rattle.std.specs.Prelude.{ℕ, Some, None, Ok, Err, Option, Result}
+use Rattle.recovery.specs.declared.AdmitError.{AdmitError}
+use Rattle.recovery.specs.declared.AdmitError.TheVariants.{Awaited, Full}
 use Rattle.pickcore.specs.declared.record.Hold.{Hold}
 use Rattle.pickcore.specs.declared.record.Hold.TheVariants as hold
 use Rattle.pickcore.specs.declared.record.Ending.{Ending}
@@ -19,6 +21,16 @@ hold_number hold.Capacity = 6
 abbrev pub hold_or_0 : Option Hold → ℕ
 hold_or_0 None = 0
 hold_or_0 (Some h) = hold_number h
+
+-- the hold of an instruction that the scheme does not admit
+abbrev pub hold_of : AdmitError → Hold
+hold_of Awaited = hold.Destination
+hold_of Full = hold.Capacity
+
+-- the ending by an instruction that issues at a counter, or is held
+abbrev pub issued_or_held : Result ℕ Hold → Ending
+issued_or_held (Ok c) = Issued c
+issued_or_held (Err h) = Held h
 
 -- the record of a cycle, by what retired and how the cycle ended
 abbrev pub record_of : Option ℕ → Ending → CycleRecord

@@ -18,23 +18,19 @@ use isa::fault::Cause;
 use isa::refusal::Refusal;
 use isa::unit::UNITS;
 use recovery::Recovery;
+use std::array;
 
 // Whether every delay is from 1 to 16.
 fn delays_fit(delays: &[u32]) -> bool
     ensures { result ≡ delays_fit delays.now }
 {
-    for delay in delays {
-        if !one_to_sixteen(*delay) {
-            return false;
-        }
-    }
-    true
+    delays.iter().all(|delay| one_to_sixteen(*delay))
 }
 
 fn one_to_sixteen(n: u32) -> bool
     ensures { result ≡ one_to_sixteen n }
 {
-    1 <= n && n <= 16
+    (1..=16).contains(&n)
 }
 
 // The count that an image holds: the core's own, which never passes the most that an image may hold.
@@ -42,10 +38,7 @@ fn image_count(count: u32) -> u32
     ensures value { result ≡ count_of_image count }
     ensures few { result ≤ 1000000 }
 {
-    if count > MOST_COUNT {
-        return MOST_COUNT;
-    }
-    count
+    count.min(MOST_COUNT)
 }
 
 // Puts a word into each register, from the first on.
@@ -104,7 +97,7 @@ impl<S: Recovery> Core<S> {
         if !one_to_sixteen(capacity) {
             return Err(Refusal::Capacity);
         }
-        if program_length < 1 || program_length > 4096 {
+        if !(1..=4096).contains(&program_length) {
             return Err(Refusal::Program);
         }
         if data_length > 4096 {
@@ -189,7 +182,7 @@ impl<S: Recovery> Core<S> {
 
     // Moves the core by one cycle, and tells what it did.
     pub fn step(&mut self, program: &[u32], data: &mut [u32]) -> Result<CycleRecord, Refusal>
-        ensures steps { Steps S.timing (machine_of S.meaning self.old) program.now «data».old (record { answer = result; machine = machine_of S.meaning self.new; words = «data».new }) }
+        ensures steps { Steps S.MARK (machine_of S.meaning self.old) program.now «data».old (record { answer = result; machine = machine_of S.meaning self.new; words = «data».new }) }
         ensures same { is_err result ≡ true → self.new ≡ self.old }
         ensures sound { Sound (machine_of S.meaning self.old) → Sound (machine_of S.meaning self.new) }
     {
@@ -247,10 +240,7 @@ impl<S: Recovery> Core<S> {
         if !self.running {
             return Err(Refusal::Stopped);
         }
-        let counter = match self.pipe.scheme.oldest() {
-            Some(oldest) => oldest,
-            None => self.pipe.next,
-        };
+        let counter = self.pipe.scheme.oldest().unwrap_or(self.pipe.next);
         self.pipe.empty(counter);
         self.stop(Cause::Cut);
         Ok(())
@@ -264,7 +254,7 @@ impl<S: Recovery> Core<S> {
         data: &mut [u32],
         records: &mut [CycleRecord],
     ) -> Result<usize, Refusal>
-        ensures runs { Runs S.timing program.now (machine_of S.meaning self.old) «data».old records.old result records.new (machine_of S.meaning self.new) «data».new }
+        ensures runs { Runs S.MARK program.now (machine_of S.meaning self.old) «data».old records.old result records.new (machine_of S.meaning self.new) «data».new }
         ensures same { is_err result ≡ true → self.new ≡ self.old }
         ensures sound { Sound (machine_of S.meaning self.old) → Sound (machine_of S.meaning self.new) }
     {
@@ -276,41 +266,38 @@ impl<S: Recovery> Core<S> {
 
     // The steps of a run that is accepted.
     fn fill(&mut self, program: &[u32], data: &mut [u32], records: &mut [CycleRecord]) -> usize
-        ensures ran { Ran S.timing program.now (machine_of S.meaning self.old) «data».old records.old result records.new (machine_of S.meaning self.new) «data».new }
+        ensures ran { Ran S.MARK program.now (machine_of S.meaning self.old) «data».old records.old result records.new (machine_of S.meaning self.new) «data».new }
         ensures sound { Sound (machine_of S.meaning self.old) → Sound (machine_of S.meaning self.new) }
     {
-        let mut done = 0;
-        while done < records.len() {
+        for (done, place) in records.iter_mut().enumerate() {
             let Ok(record) = self.step(program, data) else {
                 return done;
             };
-            records[done] = record;
-            done += 1;
+            *place = record;
         }
-        done
+        records.len()
     }
 
     // All sixteen words with number 0, or sixteen zeros with a refusal's number.
     pub fn registers(&self) -> ([u32; 16], u32)
-        ensures value { result ≡ registers_answer S.timing (machine_of S.meaning self.now) }
+        ensures value { result ≡ registers_answer S.MARK (machine_of S.meaning self.now) }
         ensures settled { Sound (machine_of S.meaning self.now) → self.now.running ≡ false → result ≡ ((S.meaning self.now.pipe.scheme).settled, 0) }
     {
-        let mut words = [0; 16];
         if self.running {
-            return (words, Refusal::Running.number());
+            return ([0; 16], u32::from(Refusal::Running));
         }
-        for register in 0..16u8 {
-            words[register as usize] = self.pipe.scheme.look(register).unwrap_or(0);
-        }
+        let words = array::from_fn(|register| {
+            self.pipe.scheme.look(register as u8).unwrap_or(0)
+        });
         (words, 0)
     }
 
     // Writes the image of a stopped core to the front of a buffer; later words stay.
     pub fn write_image(&self, buffer: &mut [u32]) -> Result<(), Refusal>
         ensures answer { result ≡ image_answer (machine_of S.meaning self.now) buffer.old }
-        ensures leaves { buffer.new ≡ image_leaves S.timing (machine_of S.meaning self.now) buffer.old }
+        ensures leaves { buffer.new ≡ image_leaves S.MARK (machine_of S.meaning self.now) buffer.old }
         ensures settled { Sound (machine_of S.meaning self.now) → self.now.running ≡ false → buffer.new ≡ write_leaves (between (machine_of S.meaning self.now)) buffer.old }
-        ensures reads { is_ok result ≡ true → read_words (image_words (imaged S.timing (machine_of S.meaning self.now))) ≡ Ok (imaged S.timing (machine_of S.meaning self.now)) }
+        ensures reads { is_ok result ≡ true → read_words (image_words (imaged S.MARK (machine_of S.meaning self.now))) ≡ Ok (imaged S.MARK (machine_of S.meaning self.now)) }
     {
         if self.running {
             return Err(Refusal::Running);

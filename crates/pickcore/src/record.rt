@@ -1,8 +1,9 @@
 // What one cycle did.
 ghost use Rattle.std.specs.Prelude.{◌≡◌};
-ghost use Rattle.pickcore.specs.Record.{hold_number, hold_or_0, record_of};
+ghost use Rattle.pickcore.specs.Record.{hold_number, hold_of, issued_or_held, record_of};
 
 use isa::fault::Cause;
+use recovery::AdmitError;
 
 // Why the next instruction did not issue in a cycle.
 #[derive(Clone, Copy, PartialEq, Eq, Debug)]
@@ -21,11 +22,11 @@ pub enum Hold {
     Capacity,
 }
 
-impl Hold {
-    pub fn number(self) -> u32
-        ensures { result ≡ hold_number self }
-    {
-        match self {
+impl From<Hold> for u32 {
+    ghost from_gives = { λ hold number. number ≡ hold_number hold };
+
+    fn from(hold: Hold) -> u32 {
+        match hold {
             Hold::Request => 1,
             Hold::Flight => 2,
             Hold::Source => 3,
@@ -36,19 +37,21 @@ impl Hold {
     }
 }
 
-// The number of a hold, or 0 where there is none.
-pub fn hold_number(hold: Option<Hold>) -> u32
-    ensures { result ≡ hold_or_0 hold }
-{
-    match hold {
-        Some(hold) => hold.number(),
-        None => 0,
+// What a scheme declines to admit is held.
+impl From<AdmitError> for Hold {
+    ghost from_gives = { λ error hold. hold ≡ hold_of error };
+
+    fn from(error: AdmitError) -> Hold {
+        match error {
+            AdmitError::Awaited => Hold::Destination,
+            AdmitError::Full => Hold::Capacity,
+        }
     }
 }
 
 // How a cycle ends: an instruction enters the flight, a store is written, the next instruction is held, or the core
 // stops.
-#[derive(Clone, Copy)]
+#[derive(Clone, Copy, PartialEq, Eq, Debug)]
 pub enum Ending {
     Issued(u16),
     Stored(u16),
@@ -56,9 +59,21 @@ pub enum Ending {
     Stopped(Cause),
 }
 
+// An instruction issues, or is held.
+impl From<Result<u16, Hold>> for Ending {
+    ghost from_gives = { λ issued ending. ending ≡ issued_or_held issued };
+
+    fn from(issued: Result<u16, Hold>) -> Ending {
+        match issued {
+            Ok(counter) => Ending::Issued(counter),
+            Err(hold) => Ending::Held(hold),
+        }
+    }
+}
+
 // The record of a cycle: the counter that retired, the counter that issued (a store counts as issued), the hold and
 // the cause, each where there is one.
-#[derive(Clone, Copy, PartialEq, Eq, Debug)]
+#[derive(Clone, Copy, PartialEq, Eq, Debug, Default)]
 pub struct CycleRecord {
     pub retired: Option<u16>,
     pub issued: Option<u16>,
@@ -70,26 +85,26 @@ impl CycleRecord {
     pub fn new(retired: Option<u16>, ending: Ending) -> CycleRecord
         ensures { result ≡ record_of retired ending }
     {
+        let blank = CycleRecord {
+            retired,
+            issued: None,
+            hold: None,
+            cause: None,
+        };
         match ending {
             Ending::Issued(counter) | Ending::Stored(counter) => {
                 CycleRecord {
-                    retired,
                     issued: Some(counter),
-                    hold: None,
-                    cause: None,
+                    ..blank
                 }
             }
             Ending::Held(hold) => CycleRecord {
-                retired,
-                issued: None,
                 hold: Some(hold),
-                cause: None,
+                ..blank
             },
             Ending::Stopped(cause) => CycleRecord {
-                retired,
-                issued: None,
-                hold: None,
                 cause: Some(cause),
+                ..blank
             },
         }
     }

@@ -4,6 +4,7 @@ ghost use Rattle.isa.specs.Table.{fetched, sources_of, computes, stores, target}
 ghost use Rattle.isa.specs.declared.fault.Cause.TheVariants as cause;
 ghost use Rattle.recovery.specs.Meaning.{oldest_answer, retire_answer};
 ghost use Rattle.pickcore.specs.Cycle.{arrived, moved, emptied, drains, putting, working, jumping, looks, dispatch, front, cycle, retires, flight_at_admission, Move, Turn, Chosen};
+ghost use Rattle.pickcore.specs.Record.{issued_or_held};
 ghost use Rattle.pickcore.specs.Model.{pipe_of, operands, setting};
 
 use crate::pipeline::Pipeline;
@@ -14,7 +15,7 @@ use isa::fault::{Cause, Fault};
 use isa::memory::store_word;
 use isa::unit::UNITS;
 use isa::words::{Kind, read_word};
-use recovery::{Admitted, Recovery, Retired};
+use recovery::{Recovery, Trap};
 
 impl<S: Recovery> Pipeline<S> {
     // One cycle: the counter that retired, and how it ended. A hold or a stop ends it.
@@ -27,19 +28,19 @@ impl<S: Recovery> Pipeline<S> {
     ) -> (Option<u16>, Ending)
         requires { (length program.now ≤ 4096) × (self.old.count < 3999999999) }
         ensures retired { result.0 ≡ retires (pipe_of S.meaning self.old) }
-        ensures turn { Chosen (λ t. cycle (setting S.timing delays.now program.now) requested t (pipe_of S.meaning self.old) «data».old) (flight_at_admission (pipe_of S.meaning self.old)) result.1 (record { ending = result.1; pipe = pipe_of S.meaning self.new; words = «data».new }) }
+        ensures turn { Chosen (λ t. cycle (setting S.MARK delays.now program.now) requested t (pipe_of S.meaning self.old) «data».old) (flight_at_admission (pipe_of S.meaning self.old)) result.1 (record { ending = result.1; pipe = pipe_of S.meaning self.new; words = «data».new }) }
     {
         // rules 1 and 2
         self.deliver_first();
         self.stages.shift();
         // rule 3, and then the others
         match self.scheme.retire() {
-            Retired::Nothing => (None, self.front(delays, requested, program, data)),
-            Retired::Settled(counter) => {
+            Ok(None) => (None, self.front(delays, requested, program, data)),
+            Ok(Some(counter)) => {
                 self.count += 1;
                 (Some(counter), self.front(delays, requested, program, data))
             }
-            Retired::Faulted(counter, fault) => {
+            Err(Trap { counter, fault }) => {
                 self.empty(counter);
                 (None, Ending::Stopped(Cause::Fault(fault)))
             }
@@ -73,7 +74,7 @@ impl<S: Recovery> Pipeline<S> {
         data: &mut [u32],
     ) -> Ending
         requires { (length program.now ≤ 4096) × (self.old.count < 4000000000) }
-        ensures { Chosen (λ t. front (setting S.timing delays.now program.now) requested t (pipe_of S.meaning self.old) «data».old) (S.meaning self.old.scheme).flight result (record { ending = result; pipe = pipe_of S.meaning self.new; words = «data».new }) }
+        ensures { Chosen (λ t. front (setting S.MARK delays.now program.now) requested t (pipe_of S.meaning self.old) «data».old) (S.meaning self.old.scheme).flight result (record { ending = result; pipe = pipe_of S.meaning self.new; words = «data».new }) }
     {
         if requested {
             return self.drain(Hold::Request, Cause::Request);
@@ -95,7 +96,7 @@ impl<S: Recovery> Pipeline<S> {
     // Rules 5 to 7, by the next instruction.
     fn issue(&mut self, delays: &[u32; UNITS], program: &[u32], data: &mut [u32]) -> Ending
         requires { (length program.now ≤ 4096) × (self.old.count < 4000000000) }
-        ensures { Chosen (λ t. dispatch (setting S.timing delays.now program.now) t (pipe_of S.meaning self.old) «data».old (fetched program.now self.old.next)) (S.meaning self.old.scheme).flight result (record { ending = result; pipe = pipe_of S.meaning self.new; words = «data».new }) }
+        ensures { Chosen (λ t. dispatch (setting S.MARK delays.now program.now) t (pipe_of S.meaning self.old) «data».old (fetched program.now self.old.next)) (S.meaning self.old.scheme).flight result (record { ending = result; pipe = pipe_of S.meaning self.new; words = «data».new }) }
     {
         let at = self.next as usize;
         if at >= program.len() {
@@ -105,11 +106,14 @@ impl<S: Recovery> Pipeline<S> {
             return self.drain(Hold::Flight, Cause::Fault(Fault::Illegal));
         };
         match unit_of(kind) {
-            Some(unit) => self.work(kind, d, a, b, n, delays[unit.number()], data),
+            Some(unit) => {
+                let delay = delays[usize::from(unit)];
+                Ending::from(self.work(kind, d, a, b, n, delay, data))
+            }
             None => match kind {
                 Kind::Stop => self.drain(Hold::Flight, Cause::Fault(Fault::Stop)),
                 Kind::Store => self.store(a, b, n, data),
-                _ => self.branch(kind, a, b, n),
+                _ => Ending::from(self.branch(kind, a, b, n)),
             },
         }
     }
@@ -139,52 +143,47 @@ impl<S: Recovery> Pipeline<S> {
         }
     }
 
-    // Rules 6 and 7 for an instruction with a result, on a unit of this delay.
-    fn work(&mut self, kind: Kind, d: u8, a: u8, b: u8, n: u16, delay: u32, data: &[u32]) -> Ending
+    // Rules 6 and 7 for an instruction with a result, on a unit of this delay: the counter that issues.
+    fn work(
+        &mut self,
+        kind: Kind,
+        d: u8,
+        a: u8,
+        b: u8,
+        n: u16,
+        delay: u32,
+        data: &[u32],
+    ) -> Result<u16, Hold>
         requires { self.old.next < 65535 }
-        ensures { Chosen (λ t. working t (pipe_of S.meaning self.old) «data».now delay d (computes kind n) (looks S.timing (S.meaning self.old.scheme) (sources_of kind a b))) (S.meaning self.old.scheme).flight result (record { ending = result; pipe = pipe_of S.meaning self.new }) }
+        ensures { Chosen (λ t. working t (pipe_of S.meaning self.old) «data».now delay d (computes kind n) (looks S.MARK (S.meaning self.old.scheme) (sources_of kind a b))) (S.meaning self.old.scheme).flight (issued_or_held result) (record { ending = issued_or_held result; pipe = pipe_of S.meaning self.new }) }
     {
-        let Some((x, y)) = self.operands(kind, a, b) else {
-            return Ending::Held(Hold::Source);
-        };
+        let (x, y) = self.operands(kind, a, b).ok_or(Hold::Source)?;
         if self.stages.is_taken(delay) {
-            return Ending::Held(Hold::Stage);
+            return Err(Hold::Stage);
         }
         let at = self.next;
-        match self.scheme.admit(at, Some(d)) {
-            Admitted::Awaited => Ending::Held(Hold::Destination),
-            Admitted::Full => Ending::Held(Hold::Capacity),
-            Admitted::Tagged(tag) => {
-                let result = compute(kind, n, x, y, data);
-                self.stages.enter(delay, Stage { tag, result });
-                self.next = at + 1;
-                Ending::Issued(at)
-            }
-        }
+        let tag = self.scheme.admit(at, Some(d))?;
+        let result = compute(kind, n, x, y, data);
+        self.stages.enter(delay, Stage { tag, result });
+        self.next = at + 1;
+        Ok(at)
     }
 
     // Rules 6 and 7 for a branch: it takes no stage, and moves the counter as it issues.
-    fn branch(&mut self, kind: Kind, a: u8, b: u8, n: u16) -> Ending
+    fn branch(&mut self, kind: Kind, a: u8, b: u8, n: u16) -> Result<u16, Hold>
         requires { self.old.next < 65535 }
-        ensures { Chosen (λ t. jumping t (pipe_of S.meaning self.old) (target kind n) (looks S.timing (S.meaning self.old.scheme) (sources_of kind a b))) (S.meaning self.old.scheme).flight result (record { ending = result; pipe = pipe_of S.meaning self.new }) }
+        ensures { Chosen (λ t. jumping t (pipe_of S.meaning self.old) (target kind n) (looks S.MARK (S.meaning self.old.scheme) (sources_of kind a b))) (S.meaning self.old.scheme).flight (issued_or_held result) (record { ending = issued_or_held result; pipe = pipe_of S.meaning self.new }) }
     {
-        let Some((x, y)) = self.operands(kind, a, b) else {
-            return Ending::Held(Hold::Source);
-        };
+        let (x, y) = self.operands(kind, a, b).ok_or(Hold::Source)?;
         let at = self.next;
-        match self.scheme.admit(at, None) {
-            Admitted::Awaited => Ending::Held(Hold::Destination),
-            Admitted::Full => Ending::Held(Hold::Capacity),
-            Admitted::Tagged(_) => {
-                self.next = if branch_taken(kind, x, y) { n } else { at + 1 };
-                Ending::Issued(at)
-            }
-        }
+        let _ = self.scheme.admit(at, None)?;
+        self.next = if branch_taken(kind, x, y) { n } else { at + 1 };
+        Ok(at)
     }
 
     // The words of an instruction's sources; none where one of them is awaited.
     fn operands(&self, kind: Kind, a: u8, b: u8) -> Option<(u32, u32)>
-        ensures { result ≡ operands (looks S.timing (S.meaning self.now.scheme) (sources_of kind a b)) }
+        ensures { result ≡ operands (looks S.MARK (S.meaning self.now.scheme) (sources_of kind a b)) }
     {
         match kind {
             Kind::Stop | Kind::Set => Some((0, 0)),

@@ -5,13 +5,13 @@ ghost use Rattle.std.specs.Prelude.{◌≡◌, ◌-◌, ◌≤◌, [], ◌∷◌
 use isa::fault::Fault;
 
 // A result on its way, with the tag of its entry.
-#[derive(Clone, Copy)]
+#[derive(Clone, Copy, PartialEq, Eq, Debug)]
 pub struct Stage {
     pub tag: u8,
     pub result: Result<u32, Fault>,
 }
 
-#[derive(Clone, Copy)]
+#[derive(Clone, Copy, PartialEq, Eq, Debug)]
 pub struct Stages {
     slots: [Option<Stage>; 16],
     ghost sixteen: { length slots ≡ 16 },
@@ -29,9 +29,7 @@ impl Stages {
         ensures answer { result ≡ slice_index_or self.old.slots 0 None }
         ensures leaves { self.new.slots ≡ slice_set self.old.slots 0 None }
     {
-        let first = self.slots[0];
-        self.slots[0] = None;
-        first
+        self.slots[0].take()
     }
 
     // Every stage moves one place on, and the last is empty.

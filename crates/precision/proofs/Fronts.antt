@@ -8,7 +8,7 @@ use Rattle.isa.specs.declared.fault.Cause.TheVariants as cause
 use Rattle.isa.specs.declared.unit.ExecUnit.{ExecUnit}
 use Rattle.isa.specs.Table.{Instr, halt, store, work, jump}
 use Rattle.isa.specs.Plain.{Plain, reads, executed, worked, written}
-use Rattle.recovery.specs.declared.Admitted.TheVariants.{Awaited, Full, Tagged}
+use Rattle.recovery.specs.declared.AdmitError.TheVariants.{Awaited, Full}
 use Rattle.recovery.specs.Meaning.{Entry, awaited, held_up, youngest, full, new_entry, oldest_of}
 use Rattle.pickcore.specs.declared.record.Hold.{Hold}
 use Rattle.pickcore.specs.declared.record.Hold.TheVariants as hold
@@ -113,7 +113,7 @@ module _ (s : Setting) (t : ℕ) (p : Pipe) (ws : List ℕ) (tied : Tied p.schem
 
   -- an admission, by its two tests
   admitted_went : (d : Option ℕ) (stages : List (Option Stage)) (next : ℕ) (a f : Bool) → (a ≡ true → p.scheme.flight ≡ [] → ⊥) → full p.scheme ≡ f → Went s t p ws (issue t p ws d stages next)
-      → Went s t p ws (beside ws (admitted p (cond a p.scheme (cond f p.scheme (appended p.scheme (new_entry t p.next d)))) stages next (cond a Awaited (cond f Full (Tagged t)))))
+      → Went s t p ws (beside ws (admitted p (cond a p.scheme (cond f p.scheme (appended p.scheme (new_entry t p.next d)))) stages next (cond a (Err Awaited) (cond f (Err Full) (Ok t)))))
   admitted_went d stages next true f busy e w = kept hold.Destination (busy refl)
   admitted_went d stages next false true busy e w = kept hold.Capacity (room_busy e)
   admitted_went d stages next false false busy e w = w

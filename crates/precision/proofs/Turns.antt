@@ -7,8 +7,7 @@ use Rattle.isa.specs.Table.{Instr}
 use Rattle.isa.specs.Plain.{Plain, reads, executed, worked}
 use Rattle.recovery.specs.declared.Status.{Status}
 use Rattle.recovery.specs.declared.Status.TheVariants.{Pending, Done, Faulted}
-use Rattle.recovery.specs.declared.Retired.{Retired}
-use Rattle.recovery.specs.declared.Retired.TheVariants as retired
+use Rattle.recovery.specs.declared.Trap.{Trap}
 use Rattle.recovery.specs.Meaning.{Meaning, Entry, has_tag, is_pending, ended, put, with_status, new_entry, oldest_answer, oldest_of, retire_answer, retire_flight, retire_status, retire_leaves, settle_oldest, settle}
 use Rattle.pickcore.specs.declared.stages.Stage.{Stage}
 use Rattle.pickcore.specs.Cycle.{Setting, Pipe, Turn, arrived, moved, settled, emptied, delivers, looks, front, retiring, cycle, flight_at_admission}
@@ -138,10 +137,10 @@ module _ (s : Setting) (base : Plain) where
 
   -- rule 3: the plain machine goes along with the oldest entry, or has its fault
 
-  pub settled_runs : (p : Pipe) (ws : List ℕ) (c : ℕ) → retired.Settled c ≡ retire_answer p.scheme → Runs s base p ws → Runs s base (settled p) ws
+  pub settled_runs : (p : Pipe) (ws : List ℕ) (c : ℕ) → Ok (Some c) ≡ retire_answer p.scheme → Runs s base p ws → Runs s base (settled p) ws
   settled_runs p ws c a r = go p.scheme.flight a r.here.tied r.here.follows
     where
-      one : (e : Entry) (es : List Entry) (y : Status) → e.status ≡ y → retired.Settled c ≡ retire_status e.counter y → Tied (e ∷ es) p.stages
+      one : (e : Entry) (es : List Entry) (y : Status) → e.status ≡ y → Ok (Some c) ≡ retire_status e.counter y → Tied (e ∷ es) p.stages
           → Follows s.code p.next r.now (foreseen p.stages (e ∷ es)) → Runs s base (settled_by p (settle p.scheme es e.destination y)) ws
       one e es Pending v b k f = let z : ◌≡◌ {A = ℕ} 0 1 = cc in absurd (omega arith)
       one e es (Faulted g) v b k f = let z : ◌≡◌ {A = ℕ} 0 1 = cc in absurd (omega arith)
@@ -163,14 +162,14 @@ module _ (s : Setting) (base : Plain) where
             };
           }
 
-      go : (es : List Entry) → retired.Settled c ≡ retire_flight es → Tied es p.stages → Follows s.code p.next r.now (foreseen p.stages es) → Runs s base (settled_by p (settle_oldest p.scheme es)) ws
+      go : (es : List Entry) → Ok (Some c) ≡ retire_flight es → Tied es p.stages → Follows s.code p.next r.now (foreseen p.stages es) → Runs s base (settled_by p (settle_oldest p.scheme es)) ws
       go [] b k f = let z : ◌≡◌ {A = ℕ} 0 1 = cc in absurd (omega arith)
       go (e ∷ es) b k f = one e es e.status refl b k f
 
-  faulted_ends : (p : Pipe) (ws : List ℕ) (c : ℕ) (f : Fault) → retired.Faulted c f ≡ retire_answer p.scheme → Runs s base p ws → Ends s base (cause.Fault f) (emptied p c) ws
+  faulted_ends : (p : Pipe) (ws : List ℕ) (c : ℕ) (f : Fault) → Err (record { counter = c; fault = f }) ≡ retire_answer p.scheme → Runs s base p ws → Ends s base (cause.Fault f) (emptied p c) ws
   faulted_ends p ws c f a r = go p.scheme.flight a r.here.follows
     where
-      one : (e : Entry) (es : List Entry) (y : Status) → e.status ≡ y → retired.Faulted c f ≡ retire_status e.counter y
+      one : (e : Entry) (es : List Entry) (y : Status) → e.status ≡ y → Err (record { counter = c; fault = f }) ≡ retire_status e.counter y
           → Follows s.code p.next r.now (foreseen p.stages (e ∷ es)) → Ends s base (cause.Fault f) (emptied p c) ws
       one e es Pending v b k = let z : ◌≡◌ {A = ℕ} 0 1 = cc in absurd (omega arith)
       one e es (Done w) v b k = let z : ◌≡◌ {A = ℕ} 0 1 = cc in absurd (omega arith)
@@ -183,7 +182,7 @@ module _ (s : Setting) (base : Plain) where
           (sym (follow_at s.code p.next r.now (come_to p.stages e) (foreseen p.stages es) k) ∙ here)
           (λ x h. let last : g ≡ x = cc in does ∙ ap (λ v. Err v) last)
 
-      go : (es : List Entry) → retired.Faulted c f ≡ retire_flight es → Follows s.code p.next r.now (foreseen p.stages es) → Ends s base (cause.Fault f) (emptied p c) ws
+      go : (es : List Entry) → Err (record { counter = c; fault = f }) ≡ retire_flight es → Follows s.code p.next r.now (foreseen p.stages es) → Ends s base (cause.Fault f) (emptied p c) ws
       go [] b k = let z : ◌≡◌ {A = ℕ} 0 1 = cc in absurd (omega arith)
       go (e ∷ es) b k = one e es e.status refl b k
 
@@ -252,13 +251,13 @@ module _ (s : Setting) (longest : ℕ) (fit : Fit s longest) (sane : Sane s) (ba
   front_held requested t p ws free r =
       went_held t p ws (front s requested t p ws) free r (front_went s t p ws r.here.tied r.here.roomy requested (sane p.next))
 
-  retiring_held : (requested : Bool) (t : ℕ) (p : Pipe) (ws : List ℕ) (y : Retired) → y ≡ retire_answer p.scheme → has_tag t (retire_leaves p.scheme).flight ≡ false → Runs s base p ws
+  retiring_held : (requested : Bool) (t : ℕ) (p : Pipe) (ws : List ℕ) (y : Result (Option ℕ) Trap) → y ≡ retire_answer p.scheme → has_tag t (retire_leaves p.scheme).flight ≡ false → Runs s base p ws
       → Held s base (retiring s requested t p ws y)
   unfolding retiring
-  retiring_held requested t p ws retired.Nothing a free r =
-      front_held requested t p ws (subst (λ (m : Meaning). has_tag t m.flight ≡ false) (stays p.scheme retired.Nothing a refl) free) r
-  retiring_held requested t p ws (retired.Settled c) a free r = front_held requested t (settled p) ws free (settled_runs s base p ws c a r)
-  retiring_held requested t p ws (retired.Faulted c f) a free r = faulted_ends s base p ws c f a r
+  retiring_held requested t p ws (Ok None) a free r =
+      front_held requested t p ws (subst (λ (m : Meaning). has_tag t m.flight ≡ false) (stays p.scheme (Ok None) a refl) free) r
+  retiring_held requested t p ws (Ok (Some c)) a free r = front_held requested t (settled p) ws free (settled_runs s base p ws c a r)
+  retiring_held requested t p ws (Err x) a free r = faulted_ends s base p ws x.counter x.fault a r
 
   pub cycle_held : (requested : Bool) (t : ℕ) (p : Pipe) (ws : List ℕ) → Runs s base p ws → has_tag t (flight_at_admission p) ≡ false → Held s base (cycle s requested t p ws)
   unfolding cycle

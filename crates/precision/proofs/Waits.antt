@@ -6,8 +6,7 @@ use Rattle.isa.specs.declared.unit.ExecUnit.TheVariants as unit
 use Rattle.isa.specs.Plain.{Plain}
 use Rattle.recovery.specs.declared.Status.{Status}
 use Rattle.recovery.specs.declared.Status.TheVariants.{Pending, Done, Faulted}
-use Rattle.recovery.specs.declared.Retired.{Retired}
-use Rattle.recovery.specs.declared.Retired.TheVariants as retired
+use Rattle.recovery.specs.declared.Trap.{Trap}
 use Rattle.recovery.specs.Meaning.{Meaning, Entry, has_tag, is_pending, ended, takes, with_status, delivered, new_entry, retire_answer, retire_flight, retire_status, retire_leaves}
 use Rattle.pickcore.specs.declared.stages.Stage.{Stage}
 use Rattle.pickcore.specs.Cycle.{Setting, Pipe, Turn, arrived, moved, settled, delivers, front, retiring, cycle, flight_at_admission}
@@ -71,10 +70,10 @@ not_first e (Some x ∷ xs) y h k = by (eqb x.tag e.tag) refl
         let gone = ap (λ b. (cond b (with_status e (ended x.result)) e).status) taken in
         absurd (ended_not x.result (sym gone ∙ (ap (λ (f : Entry). f.status) h ∙ y)))
 
-oldest_pending : (e : Entry) (es : List Entry) → retired.Nothing ≡ retire_flight (e ∷ es) → e.status ≡ Pending
+oldest_pending : (e : Entry) (es : List Entry) → Ok None ≡ retire_flight (e ∷ es) → e.status ≡ Pending
 oldest_pending e es h = by e.status h
   where
-    by : (y : Status) → retired.Nothing ≡ retire_status e.counter y → y ≡ Pending
+    by : (y : Status) → Ok None ≡ retire_status e.counter y → y ≡ Pending
     by Pending h = refl
     by (Done w) h = let z : ◌≡◌ {A = ℕ} 0 1 = cc in absurd (omega arith)
     by (Faulted f) h = let z : ◌≡◌ {A = ℕ} 0 1 = cc in absurd (omega arith)
@@ -87,7 +86,7 @@ oldest_staged s q p ws e es h f y =
     (subst (λ fs. Follows s.code p.next q (foreseen p.stages fs)) f h.follows) (ap (fate p.stages e.tag) y ∙ k))
 
 -- rules 1 and 2, where nothing retires then
-moved_nearer : (s : Setting) (q : Plain) (longest : ℕ) (p : Pipe) (ws : List ℕ) → Matches s q p ws → retired.Nothing ≡ retire_answer (moved (arrived p)).scheme
+moved_nearer : (s : Setting) (q : Plain) (longest : ℕ) (p : Pipe) (ws : List ℕ) → Matches s q p ws → Ok None ≡ retire_answer (moved (arrived p)).scheme
     → Nearer longest (wait_of longest p.stages p.scheme.flight) (moved (arrived p))
 moved_nearer s q longest p ws h a = by p.scheme.flight refl
   where
@@ -141,14 +140,14 @@ module _ (s : Setting) (longest : ℕ) (fit : Fit s longest) (sane : Sane s) whe
       let h = r.here in
       went_calm t c w p ws (front s requested t p ws) free h.rows a l near (front_went s t p ws h.tied h.roomy requested (sane p.next))
 
-  retiring_calm : (base : Plain) (requested : Bool) (t w : ℕ) (p : Pipe) (ws : List ℕ) (y : Retired) → Runs s base p ws → Within longest p.stages → y ≡ retire_answer p.scheme
-      → has_tag t (retire_leaves p.scheme).flight ≡ false → (retired.Nothing ≡ retire_answer p.scheme → Nearer longest w p) → Calm longest p.count w (retiring s requested t p ws y)
+  retiring_calm : (base : Plain) (requested : Bool) (t w : ℕ) (p : Pipe) (ws : List ℕ) (y : Result (Option ℕ) Trap) → Runs s base p ws → Within longest p.stages → y ≡ retire_answer p.scheme
+      → has_tag t (retire_leaves p.scheme).flight ≡ false → (Ok None ≡ retire_answer p.scheme → Nearer longest w p) → Calm longest p.count w (retiring s requested t p ws y)
   unfolding retiring
-  retiring_calm base requested t w p ws retired.Nothing r a e free near =
-      front_calm base requested t p.count w p ws r a (subst (λ (m : Meaning). has_tag t m.flight ≡ false) (stays p.scheme retired.Nothing e refl) free) (omega arith) (λ _. near e)
-  retiring_calm base requested t w p ws (retired.Settled c) r a e free near =
+  retiring_calm base requested t w p ws (Ok None) r a e free near =
+      front_calm base requested t p.count w p ws r a (subst (λ (m : Meaning). has_tag t m.flight ≡ false) (stays p.scheme (Ok None) e refl) free) (omega arith) (λ _. near e)
+  retiring_calm base requested t w p ws (Ok (Some c)) r a e free near =
       front_calm base requested t p.count w (settled p) ws (settled_runs s base p ws c e r) a free (omega arith) (λ h. absurd (omega arith))
-  retiring_calm base requested t w p ws (retired.Faulted c f) r a e free near = tt
+  retiring_calm base requested t w p ws (Err x) r a e free near = tt
 
   pub cycle_calm : (base : Plain) (requested : Bool) (t : ℕ) (p : Pipe) (ws : List ℕ) → Runs s base p ws → Within longest p.stages → has_tag t (flight_at_admission p) ≡ false
       → Calm longest p.count (wait_of longest p.stages p.scheme.flight) (cycle s requested t p ws)

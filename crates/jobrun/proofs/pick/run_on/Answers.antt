@@ -10,7 +10,7 @@ unreachable-requires g c =
     never_refused (order c.args.delays c.args.capacity c.args.program.now c.args.data.now c.args.cycles)
     (machine_of g.S.Recovery.meaning c.new-core.result) (machine_of g.S.Recovery.meaning c.load.new.self) (machine_of g.S.Recovery.meaning c.resume.new.self)
     c.new-core.ensures.value c.in_default.ensures.answer c.load.ensures.leaves c.resume.ensures.leaves
-    g.S.Recovery.timing c.as_mut_slice.result.now c.run.new.records (machine_of g.S.Recovery.meaning c.run.new.self) c.run.new.data
+    g.S.Recovery.MARK c.as_mut_slice.result.now c.run.new.records (machine_of g.S.Recovery.meaning c.run.new.self) c.run.new.data
     c.in_default-run.field-0 c.in_default-run.ensures.runs
 
 pub returns : goal.returns
@@ -19,7 +19,7 @@ returns g c =
     shows (order c.args.delays c.args.capacity c.args.program.now c.args.data.now c.args.cycles)
     (machine_of g.S.Recovery.meaning c.new-core.result) (machine_of g.S.Recovery.meaning c.load.new.self) (machine_of g.S.Recovery.meaning c.resume.new.self)
     c.new-core.ensures.value c.in_default.ensures.answer c.load.ensures.leaves c.resume.ensures.leaves
-    g.S.Recovery.timing c.as_mut_slice.result.now c.run.new.records (machine_of g.S.Recovery.meaning c.run.new.self) c.run.new.data
+    g.S.Recovery.MARK c.as_mut_slice.result.now c.run.new.records (machine_of g.S.Recovery.meaning c.run.new.self) c.run.new.data
     c.in-Ok.done (string_bytes c.push_str.new.self) c.in-Ok.ensures.runs (c.as_mut_slice.ensures.len ∙ c.in_ok-records.ensures.len)
     (c.in_ok-push_str.ensures.bytes
     ∙ (ap (λ x. string_bytes c.in_ok-text.text ++ x) (c.as_str.ensures.value ∙ (c.in_ok-last.ensures ∙ ap last_line c.report.ensures))

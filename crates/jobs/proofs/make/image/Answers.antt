@@ -15,6 +15,6 @@ pub returns : goal.returns
 returns g c =
     let m = machine_of g.S.Recovery.meaning c.args.core.now in
     record {
-      value = ap Ok c.write_image.ensures.leaves ∙ into_zeros m.running (imaged g.S.Recovery.timing m) tt c.in_ok-write_image.ensures.answer;
+      value = ap Ok c.write_image.ensures.leaves ∙ into_zeros m.running (imaged g.S.Recovery.MARK m) tt c.in_ok-write_image.ensures.answer;
       reads = c.in_ok-write_image.ensures.reads;
     }

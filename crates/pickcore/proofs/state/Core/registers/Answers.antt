@@ -1,16 +1,18 @@
-use Rattle.std.proofs.Common.{◌≡◌, cond, replicate, sym, ap, ◌∙◌, arith}
+use Rattle.std.proofs.Common.{rules}
 use Rattle.recovery.specs.Meaning.{look_answer}
 use Rattle.std.proofs.lemmas.List.FromFn.{fill_by_all}
-use Rattle.pickcore.specs.Calls.{word_or_0, looked}
-use Rattle.pickcore.proofs.Registers.{looked_settled}
+use Rattle.pickcore.specs.Calls.{word_or_0}
+use Rattle.pickcore.proofs.Registers.{registers_value, registers_settled}
 use Rattle.pickcore.proofs.state.Core.registers.Goals as goal
 
-pub returns : goal.returns
-returns g c =
-    let m = g.S.Recovery.meaning c.args.self.now.pipe.scheme in
-    let f : c.loop-register.words ≡ looked g.S.Recovery.timing (g.S.Recovery.meaning c.args.self.now.pipe.scheme) =
-    fill_by_all (λ r. word_or_0 (look_answer g.S.Recovery.timing (g.S.Recovery.meaning c.args.self.now.pipe.scheme) r)) c.loop-register.words 16 0 c.loop-register.invariant.0 (λ k h. c.loop-register.invariant.1 k (omega arith)) in
-    record {
-      value = ap (λ ws. (ws, 0)) f ∙ sym (ap (λ b. cond b (replicate 16 0, 6) (looked g.S.Recovery.timing (g.S.Recovery.meaning c.args.self.now.pipe.scheme), 0)) c.if-self.false);
-      settled = λ s r. ap (λ ws. (ws, 0)) (f ∙ looked_settled g.S.Recovery.timing (g.S.Recovery.meaning c.args.self.now.pipe.scheme) (s.idle r).0 s.registers);
-    }
+pub returns-clause-value : goal.returns-clause-value
+returns-clause-value g c =
+    registers_value g.S.Recovery.MARK (g.S.Recovery.meaning c.args.self.now.pipe.scheme) c.args.self.now.running c.from_fn-words.result
+    (fill_by_all (λ r. word_or_0 (look_answer g.S.Recovery.MARK (g.S.Recovery.meaning c.args.self.now.pipe.scheme) r)) c.from_fn-words.result 16 0 (search rules) (λ k h. search rules))
+    c.if-self.false
+
+pub returns-clause-settled : goal.returns-clause-settled
+returns-clause-settled g c sound stopped =
+    registers_settled g.S.Recovery.MARK (g.S.Recovery.meaning c.args.self.now.pipe.scheme) c.from_fn-words.result
+    (fill_by_all (λ r. word_or_0 (look_answer g.S.Recovery.MARK (g.S.Recovery.meaning c.args.self.now.pipe.scheme) r)) c.from_fn-words.result 16 0 (search rules) (λ k h. search rules))
+    (sound.idle stopped).0 sound.registers

@@ -8,7 +8,7 @@ use Rattle.pickcore.proofs.state.Core.write_image.Goals as goal
 pub returns : goal.returns
 returns g c =
     let core = c.args.self.now in
-    let k = g.S.Recovery.timing in
+    let k = g.S.Recovery.MARK in
     let before = c.args.buffer.now in
     let written : (xs : List ℕ) (n : ℕ) → c.registers.result.0 ≡ xs → c.image_count.result ≡ n → c.write_image.new.buffer ≡ write_leaves (record { registers = xs; counter = core.pipe.next; cause = core.cause; count = n }) before =
     λ xs n e f. c.write_image.ensures.leaves ∙ (ap (λ ys. write_leaves (record { registers = ys; counter = core.pipe.next; cause = core.cause; count = c.image_count.result }) before) e ∙ ap (λ v. write_leaves (record { registers = xs; counter = core.pipe.next; cause = core.cause; count = v }) before) f) in
