@@ -4,8 +4,6 @@ use Rattle.std.proofs.lemmas.List.{take_more_set, drop-set-lt, drop-drop}
 use Rattle.recovery.specs.declared.Timing.{Timing}
 use Rattle.pickcore.specs.declared.record.CycleRecord.{CycleRecord}
 use Rattle.pickcore.specs.Calls.{Machine, Steps, Rows, none, more}
-use Rattle.pickcore.specs.Sound.{Sound}
-use Rattle.pickcore.proofs.Sounds.{steps_sound}
 
 module _ (k : Timing) (program : List ℕ) (m : Machine) (ws : List ℕ) (before : List CycleRecord) where
   -- after c steps
@@ -14,10 +12,9 @@ module _ (k : Timing) (program : List ℕ) (m : Machine) (ws : List ℕ) (before
     pub long : length after ≡ length before
     pub rows : Rows k program m ws (take c after) n vs
     pub kept : drop c after ≡ drop c before
-    pub sound : Sound m → Sound n
 
   pub so_none : SoFar 0 before m ws
-  so_none = record { few = omega arith; long = refl; rows = none; kept = refl; sound = λ h. h }
+  so_none = record { few = omega arith; long = refl; rows = none; kept = refl }
 
   pub so_more : (c : ℕ) (after : List CycleRecord) (n o : Machine) (vs us : List ℕ) (r : CycleRecord) → c < length after → SoFar c after n vs
       → Steps k n program vs (record { answer = Ok r; machine = o; words = us }) → SoFar (c + 1) (set after c r) o us
@@ -26,5 +23,4 @@ module _ (k : Timing) (program : List ℕ) (m : Machine) (ws : List ℕ) (before
     long = length-set after c r ∙ h.long;
     rows = subst (λ rs. Rows k program m ws rs o us) (sym (take_more_set after c r l)) (more r h.rows s);
     kept = drop-set-lt (c + 1) after c r (omega arith) ∙ (sym (drop-drop 1 c after) ∙ (ap (drop 1) h.kept ∙ drop-drop 1 c before));
-    sound = λ q. steps_sound k n program vs (record { answer = Ok r; machine = o; words = us }) s (h.sound q);
   }

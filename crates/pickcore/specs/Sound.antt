@@ -1,5 +1,7 @@
 -- What holds of every core that was made by `new` or `load` and changed by calls alone.
 use Rattle.std.specs.Prelude.{◌≡◌, ℕ, ◌+◌, ◌≤◌, Bool, true, false, ◌||◌, List, [], ◌∷◌, length, replicate, Some, None, Option, ◌==◌}
+use denote.Struct.Props as logic
+use Rattle.std.specs.List.{AllByRecursion}
 use Rattle.isa.specs.Numbers.{cause_or_0}
 use Rattle.recovery.specs.Meaning.{Entry, waiting}
 use Rattle.pickcore.specs.declared.stages.Stage.{Stage}
@@ -8,8 +10,7 @@ use Rattle.pickcore.specs.Calls.{Machine}
 
 -- every entry in flight has a counter of 16 bits
 abbrev pub Counters : List Entry → Type 0
-Counters [] = Unit {0}
-Counters (e ∷ es) = (e.counter ≤ 65535) × Counters es
+Counters es = AllByRecursion (λ (e : Entry). e.counter ≤ 65535) es
 
 -- some stage has the tag
 abbrev pub staged : ℕ → List (Option Stage) → Bool
@@ -22,6 +23,12 @@ abbrev pub Tied : List Entry → List (Option Stage) → Type 0
 Tied es [] = Unit {0}
 Tied es (None ∷ xs) = Tied es xs
 Tied es (Some x ∷ xs) = (waiting x.tag es ≡ true) × (staged x.tag xs ≡ false) × Tied es xs
+
+-- a fact, with one proof at most, as a ghost field has to be
+pub Tied-prop : (es : List Entry) (xs : List (Option Stage)) → IsProp (Tied es xs)
+Tied-prop es [] = Prim.hlevel logic.props
+Tied-prop es (None ∷ xs) = Tied-prop es xs
+Tied-prop es (Some x ∷ xs) = Prim.hlevel (logic.props, Tied-prop es xs)
 
 pub record Sound (m : Machine) : Type 0 where
   -- a stopped core has nothing in flight and no stage taken

@@ -1,16 +1,14 @@
 // The calls on a core. A declined call changes nothing.
 ghost use Rattle.std.specs.Prelude.{◌≡◌, ◌+◌, ◌<◌, ◌≤◌, Bool, true, false, length, is_ok, is_err, Ok};
 ghost use Rattle.pickcore.specs.Limits.{one_to_sixteen, delays_fit};
-ghost use Rattle.pickcore.specs.Calls.{accepted, unloaded, load_refusal, load_leaves, resume_refusal, resume_leaves, step_refusal, stopped, Steps, amend_refusal, amend_leaves, stopped_refusal, request_leaves, cut_leaves, Ran, Runs, report_answer, registers_answer, count_of_image, imaged, image_answer, image_leaves, between, placed_from, take_up_refusal, take_up_leaves};
+ghost use Rattle.pickcore.specs.Calls.{accepted, unloaded, load_refusal, load_leaves, resume_refusal, resume_leaves, step_refusal, still_marked, Steps, amend_refusal, amend_leaves, stopped_refusal, request_leaves, cut_leaves, Ran, Runs, report_answer, registers_answer, imaged, image_answer, image_leaves, between, placed_from, take_up_refusal, take_up_leaves};
 ghost use Rattle.images.specs.Image.{write_leaves, image_words, read_words};
 ghost use Rattle.pickcore.specs.Core.{machine_of};
-ghost use Rattle.pickcore.specs.Sound.{Sound};
 
 use crate::pipeline::Pipeline;
 use crate::record::{CycleRecord, Ending, Report};
 use crate::stages::Stages;
 use crate::state::Core;
-use images::layout::MOST_COUNT;
 use images::read::read_image;
 use images::state::State;
 use images::write::write_image;
@@ -33,12 +31,14 @@ fn one_to_sixteen(n: u32) -> bool
     (1..=16).contains(&n)
 }
 
-// The count that an image holds: the core's own, which never passes the most that an image may hold.
-fn image_count(count: u32) -> u32
-    ensures value { result ≡ count_of_image count }
-    ensures few { result ≤ 1000000 }
+// Whether a request stays marked past a stop: only one that is met is cleared.
+fn still_marked(marked: bool, cause: Cause) -> bool
+    ensures { result ≡ still_marked marked cause }
 {
-    count.min(MOST_COUNT)
+    match cause {
+        Cause::Request => false,
+        _ => marked,
+    }
 }
 
 // Puts a word into each register, from the first on.
@@ -54,8 +54,7 @@ fn place_registers<S: Recovery>(scheme: &mut S, words: &[u32])
 impl<S: Recovery> Core<S> {
     // A core never loaded: stopped, with delays, capacity and program length 1, no data words and zeros elsewhere.
     pub fn new() -> Core<S>
-        ensures value { machine_of S.meaning result ≡ unloaded }
-        ensures sound { Sound (machine_of S.meaning result) }
+        ensures { machine_of S.meaning result ≡ unloaded }
     {
         Core {
             pipe: Pipeline {
@@ -86,7 +85,6 @@ impl<S: Recovery> Core<S> {
         ensures answer { result ≡ accepted (load_refusal (machine_of S.meaning self.old) delays capacity program_length data_length) }
         ensures leaves { machine_of S.meaning self.new ≡ load_leaves (machine_of S.meaning self.old) delays capacity program_length data_length }
         ensures same { is_err result ≡ true → self.new ≡ self.old }
-        ensures made { is_ok result ≡ true → Sound (machine_of S.meaning self.new) }
     {
         if self.running {
             return Err(Refusal::Running);
@@ -121,7 +119,6 @@ impl<S: Recovery> Core<S> {
         ensures answer { result ≡ accepted (resume_refusal (machine_of S.meaning self.old) counter) }
         ensures leaves { machine_of S.meaning self.new ≡ resume_leaves (machine_of S.meaning self.old) counter }
         ensures same { is_err result ≡ true → self.new ≡ self.old }
-        ensures sound { Sound (machine_of S.meaning self.old) → Sound (machine_of S.meaning self.new) }
     {
         if self.running {
             return Err(Refusal::Running);
@@ -168,23 +165,10 @@ impl<S: Recovery> Core<S> {
         None
     }
 
-    // Stops with a cause; a request that is met is no longer marked.
-    fn stop(&mut self, cause: Cause)
-        ensures { machine_of S.meaning self.new ≡ stopped (machine_of S.meaning self.old) cause }
-    {
-        self.running = false;
-        self.requested = match cause {
-            Cause::Request => false,
-            _ => self.requested,
-        };
-        self.cause = Some(cause);
-    }
-
     // Moves the core by one cycle, and tells what it did.
     pub fn step(&mut self, program: &[u32], data: &mut [u32]) -> Result<CycleRecord, Refusal>
         ensures steps { Steps S.MARK (machine_of S.meaning self.old) program.now «data».old (record { answer = result; machine = machine_of S.meaning self.new; words = «data».new }) }
         ensures same { is_err result ≡ true → self.new ≡ self.old }
-        ensures sound { Sound (machine_of S.meaning self.old) → Sound (machine_of S.meaning self.new) }
     {
         if let Some(refusal) = self.step_refusal(program.len(), data.len()) {
             return Err(refusal);
@@ -193,7 +177,9 @@ impl<S: Recovery> Core<S> {
         let record = CycleRecord::new(retired, ending);
         self.cycles += 1;
         if let Ending::Stopped(cause) = ending {
-            self.stop(cause);
+            self.running = false;
+            self.requested = still_marked(self.requested, cause);
+            self.cause = Some(cause);
         }
         Ok(record)
     }
@@ -203,7 +189,6 @@ impl<S: Recovery> Core<S> {
         ensures answer { result ≡ accepted (amend_refusal (machine_of S.meaning self.old) register) }
         ensures leaves { machine_of S.meaning self.new ≡ amend_leaves (machine_of S.meaning self.old) register word }
         ensures same { is_err result ≡ true → self.new ≡ self.old }
-        ensures sound { Sound (machine_of S.meaning self.old) → Sound (machine_of S.meaning self.new) }
     {
         if self.running {
             return Err(Refusal::Running);
@@ -220,7 +205,6 @@ impl<S: Recovery> Core<S> {
         ensures answer { result ≡ accepted (stopped_refusal (machine_of S.meaning self.old)) }
         ensures leaves { machine_of S.meaning self.new ≡ request_leaves (machine_of S.meaning self.old) }
         ensures same { is_err result ≡ true → self.new ≡ self.old }
-        ensures sound { Sound (machine_of S.meaning self.old) → Sound (machine_of S.meaning self.new) }
     {
         if !self.running {
             return Err(Refusal::Stopped);
@@ -235,14 +219,14 @@ impl<S: Recovery> Core<S> {
         ensures answer { result ≡ accepted (stopped_refusal (machine_of S.meaning self.old)) }
         ensures leaves { machine_of S.meaning self.new ≡ cut_leaves (machine_of S.meaning self.old) }
         ensures same { is_err result ≡ true → self.new ≡ self.old }
-        ensures sound { Sound (machine_of S.meaning self.old) → Sound (machine_of S.meaning self.new) }
     {
         if !self.running {
             return Err(Refusal::Stopped);
         }
         let counter = self.pipe.scheme.oldest().unwrap_or(self.pipe.next);
         self.pipe.empty(counter);
-        self.stop(Cause::Cut);
+        self.running = false;
+        self.cause = Some(Cause::Cut);
         Ok(())
     }
 
@@ -256,7 +240,6 @@ impl<S: Recovery> Core<S> {
     ) -> Result<usize, Refusal>
         ensures runs { Runs S.MARK program.now (machine_of S.meaning self.old) «data».old records.old result records.new (machine_of S.meaning self.new) «data».new }
         ensures same { is_err result ≡ true → self.new ≡ self.old }
-        ensures sound { Sound (machine_of S.meaning self.old) → Sound (machine_of S.meaning self.new) }
     {
         if let Some(refusal) = self.step_refusal(program.len(), data.len()) {
             return Err(refusal);
@@ -266,8 +249,7 @@ impl<S: Recovery> Core<S> {
 
     // The steps of a run that is accepted.
     fn fill(&mut self, program: &[u32], data: &mut [u32], records: &mut [CycleRecord]) -> usize
-        ensures ran { Ran S.MARK program.now (machine_of S.meaning self.old) «data».old records.old result records.new (machine_of S.meaning self.new) «data».new }
-        ensures sound { Sound (machine_of S.meaning self.old) → Sound (machine_of S.meaning self.new) }
+        ensures { Ran S.MARK program.now (machine_of S.meaning self.old) «data».old records.old result records.new (machine_of S.meaning self.new) «data».new }
     {
         for (done, place) in records.iter_mut().enumerate() {
             let Ok(record) = self.step(program, data) else {
@@ -281,7 +263,7 @@ impl<S: Recovery> Core<S> {
     // All sixteen words with number 0, or sixteen zeros with a refusal's number.
     pub fn registers(&self) -> ([u32; 16], u32)
         ensures value { result ≡ registers_answer S.MARK (machine_of S.meaning self.now) }
-        ensures settled { Sound (machine_of S.meaning self.now) → self.now.running ≡ false → result ≡ ((S.meaning self.now.pipe.scheme).settled, 0) }
+        ensures settled { self.now.running ≡ false → result ≡ ((S.meaning self.now.pipe.scheme).settled, 0) }
     {
         if self.running {
             return ([0; 16], u32::from(Refusal::Running));
@@ -296,18 +278,19 @@ impl<S: Recovery> Core<S> {
     pub fn write_image(&self, buffer: &mut [u32]) -> Result<(), Refusal>
         ensures answer { result ≡ image_answer (machine_of S.meaning self.now) buffer.old }
         ensures leaves { buffer.new ≡ image_leaves S.MARK (machine_of S.meaning self.now) buffer.old }
-        ensures settled { Sound (machine_of S.meaning self.now) → self.now.running ≡ false → buffer.new ≡ write_leaves (between (machine_of S.meaning self.now)) buffer.old }
+        ensures settled { self.now.running ≡ false → buffer.new ≡ write_leaves (between (machine_of S.meaning self.now)) buffer.old }
         ensures reads { is_ok result ≡ true → read_words (image_words (imaged S.MARK (machine_of S.meaning self.now))) ≡ Ok (imaged S.MARK (machine_of S.meaning self.now)) }
     {
         if self.running {
             return Err(Refusal::Running);
         }
         let (registers, _) = self.registers();
+        let count = self.pipe.count;
         let state = State {
             registers,
             counter: self.pipe.next,
             cause: self.cause,
-            count: image_count(self.pipe.count),
+            count,
         };
         write_image(&state, buffer)
     }
@@ -317,9 +300,8 @@ impl<S: Recovery> Core<S> {
         ensures answer { result ≡ accepted (take_up_refusal (machine_of S.meaning self.old) image.now) }
         ensures leaves { machine_of S.meaning self.new ≡ take_up_leaves (machine_of S.meaning self.old) image.now }
         ensures same { is_err result ≡ true → self.new ≡ self.old }
-        ensures sound { Sound (machine_of S.meaning self.old) → Sound (machine_of S.meaning self.new) }
-        ensures held { Sound (machine_of S.meaning self.old) → is_ok result ≡ true → read_words image.now ≡ Ok (between (machine_of S.meaning self.new)) }
-        ensures again { Sound (machine_of S.meaning self.old) → is_ok result ≡ true → image_words (between (machine_of S.meaning self.new)) ≡ image.now }
+        ensures held { is_ok result ≡ true → read_words image.now ≡ Ok (between (machine_of S.meaning self.new)) }
+        ensures again { is_ok result ≡ true → image_words (between (machine_of S.meaning self.new)) ≡ image.now }
     {
         if self.running {
             return Err(Refusal::Running);

@@ -1,6 +1,8 @@
 // A core, over any recovery scheme.
-ghost use Rattle.std.specs.Prelude.{◌≡◌, ◌+◌, ◌*◌, ◌≤◌, true, length};
-ghost use Rattle.pickcore.specs.Limits.{delays_fit};
+ghost use Rattle.std.specs.Prelude.{◌≡◌, length};
+ghost use Rattle.pickcore.specs.Model.{pipe_of};
+ghost use Rattle.pickcore.specs.Sound.{Sound, Tied-prop};
+ghost use Rattle.std.proofs.Props.{props};
 
 use crate::pipeline::Pipeline;
 use isa::fault::Cause;
@@ -20,10 +22,6 @@ pub struct Core<S: Recovery> {
     pub(crate) requested: bool,
     pub(crate) cause: Option<Cause>,
     ghost units: { length delays ≡ 4 },
-    ghost fit: { delays_fit delays ≡ true },
-    ghost short: { program_length ≤ 4096 },
-    ghost few: { data_length ≤ 4096 },
-    ghost stretch: { cycles ≤ 1000000 },
-    // a cycle raises the count by two at the most, so that it never wraps
-    ghost counted: { pipe.count ≤ 1000000 + 2 * cycles },
+    // what holds of every core, whatever calls were made on it
+    ghost sound: { Sound (record { pipe = pipe_of S.meaning pipe; delays = delays; program_length = program_length; data_length = data_length; cycles = cycles; running = running; requested = requested; cause = cause }) } by { Prim.hlevel (props, Tied-prop) },
 }

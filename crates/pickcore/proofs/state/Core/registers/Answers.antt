@@ -12,7 +12,7 @@ returns-clause-value g c =
     c.if-self.false
 
 pub returns-clause-settled : goal.returns-clause-settled
-returns-clause-settled g c sound stopped =
+returns-clause-settled g c stopped =
     registers_settled g.S.Recovery.MARK (g.S.Recovery.meaning c.args.self.now.pipe.scheme) c.from_fn-words.result
     (fill_by_all (λ r. word_or_0 (look_answer g.S.Recovery.MARK (g.S.Recovery.meaning c.args.self.now.pipe.scheme) r)) c.from_fn-words.result 16 0 (search rules) (λ k h. search rules))
-    (sound.idle stopped).0 sound.registers
+    (c.args.self.now.sound.idle stopped).0 c.args.self.now.sound.registers

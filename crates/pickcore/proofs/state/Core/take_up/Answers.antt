@@ -26,7 +26,18 @@ returns g c =
       answer = sym (ap (λ b. accepted (cond b (Some refusal.Running) (result_err (read_words image)))) off ∙ ap (λ (r : Result Snapshot Refusal). accepted (result_err r)) read);
       leaves = sym is ∙ sym (ap (λ b. cond b m (take_up_by m (read_words image))) off ∙ ap (take_up_by m) read);
       same = λ e. let z : ◌≡◌ {A = ℕ} 0 1 = cc in absurd (omega arith);
-      sound = λ h. subst Sound is (taken_sound m s h off c.in_ok-state.state.sixteen (search rules) c.in_ok-state.state.counted);
-      held = λ h _. read ∙ ap Ok (sym (taken_holds m s h off c.in_ok-state.state.sixteen) ∙ ap between is);
-      again = λ h _. ap image_words (ap between (sym is) ∙ taken_holds m s h off c.in_ok-state.state.sixteen) ∙ read_then_write image s read;
+      held = λ _. read ∙ ap Ok (sym (taken_holds m s core.sound off c.in_ok-state.state.sixteen) ∙ ap between is);
+      again = λ _. ap image_words (ap between (sym is) ∙ taken_holds m s core.sound off c.in_ok-state.state.sixteen) ∙ read_then_write image s read;
     }
+
+pub invariant_of-self : goal.invariant_of-self
+invariant_of-self g c =
+    let core = c.args.self.now in
+    let m = machine_of g.S.Recovery.meaning core in
+    let image = c.args.image.now in
+    let s = snapshot_of c.in_ok-state.state in
+    let off = c.if-self.false in
+    let read : read_words image ≡ Ok s = sym c.in_ok-state.ensures in
+    let is : taken_up (machine_of g.S.Recovery.meaning core) s ≡ record { pipe = record { scheme = g.S.Recovery.meaning c.place_registers.new.scheme; stages = core.pipe.stages.slots; next = s.counter; count = s.count }; delays = core.delays; program_length = core.program_length; data_length = core.data_length; cycles = core.cycles; running = core.running; requested = core.requested; cause = s.cause } =
+    ap (λ (y : Meaning). record { pipe = record { scheme = y; stages = core.pipe.stages.slots; next = s.counter; count = s.count }; delays = core.delays; program_length = core.program_length; data_length = core.data_length; cycles = core.cycles; running = core.running; requested = core.requested; cause = s.cause }) (sym c.place_registers.ensures) in
+    record { units = core.units; sound = subst Sound is (taken_sound m s core.sound off c.in_ok-state.state.sixteen (search rules) c.in_ok-state.state.counted) }
