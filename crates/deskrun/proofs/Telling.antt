@@ -8,9 +8,9 @@ use Rattle.pickcore.specs.Calls.{Machine, unloaded}
 use Rattle.precision.specs.Life.{Event}
 use Rattle.jobs.specs.declared.call.Call.{Call}
 use Rattle.jobs.specs.declared.call.Answer.{Answer}
-use Rattle.jobs.specs.declared.call.Setup.{Setup}
+use Rattle.pickcore.specs.declared.setup.Setup.{Setup}
 use Rattle.jobs.specs.declared.call.Totals.{Totals}
-use Rattle.jobs.specs.Setup.{setup_for}
+use Rattle.pickcore.specs.Setup.{setup_for}
 use Rattle.jobs.specs.Play.{Played, nothing, further}
 use Rattle.jobs.specs.Precision.{loads_to, Precisely}
 use Rattle.printing.specs.Lines.{load_line, totals_line}

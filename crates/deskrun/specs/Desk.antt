@@ -10,8 +10,8 @@ use Rattle.precision.specs.Precise.{Precise}
 use Rattle.jobs.specs.declared.call.Call.{Call}
 use Rattle.jobs.specs.declared.call.Call.TheVariants as call
 use Rattle.jobs.specs.declared.call.Answer.{Answer}
-use Rattle.jobs.specs.declared.call.Setup.{Setup}
-use Rattle.jobs.specs.Setup.{setup_for}
+use Rattle.pickcore.specs.declared.setup.Setup.{Setup}
+use Rattle.pickcore.specs.Setup.{setup_for}
 use Rattle.jobs.specs.Play.{Played, records_in, copies_in, reports_in, instructions_in, cycles_in}
 use Rattle.jobs.specs.Precision.{loads_to}
 use Rattle.jobrun.specs.Runs.{timing_of}

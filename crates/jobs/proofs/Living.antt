@@ -13,7 +13,7 @@ use Rattle.jobs.specs.declared.call.Call.{Call}
 use Rattle.jobs.specs.declared.call.Call.TheVariants as call
 use Rattle.jobs.specs.declared.call.Answer.{Answer}
 use Rattle.jobs.specs.declared.call.Answer.TheVariants as answer
-use Rattle.jobs.specs.declared.call.Setup.{Setup}
+use Rattle.pickcore.specs.declared.setup.Setup.{Setup}
 use Rattle.jobs.specs.declared.call.Totals.{Totals}
 use Rattle.jobs.specs.Play.{Outcome, event, simple, deed_unless, step_deed, row_events, RunBy, taking, Made, Played, nothing, further, Plays}
 use Rattle.jobs.specs.Precision.{loads_to, Precisely, ListsArePrecise}

@@ -17,8 +17,8 @@ use Rattle.precision.specs.Fit.{longest_of}
 use Rattle.precision.specs.Life.{cut, take_up, resume, Event, Life, start, next}
 use Rattle.precision.specs.Precise.{reported, plain_beside, Agrees, Precise}
 use Rattle.precision.proofs.Lives.{lives_are_precise}
-use Rattle.jobs.specs.declared.call.Setup.{Setup}
-use Rattle.jobs.specs.Setup.{setup_for}
+use Rattle.pickcore.specs.declared.setup.Setup.{Setup}
+use Rattle.pickcore.specs.Setup.{setup_for}
 use Rattle.jobs.specs.Play.{event, deed_unless, row_events, image_of}
 use Rattle.jobs.specs.Precision.{loads_to}
 use Rattle.jobs.specs.Move.{move_refusal, taken_over, Moves}

@@ -1,4 +1,3 @@
-pub mod Setup
 pub mod Play
 pub mod Precision
 pub mod Move

@@ -12,7 +12,7 @@ use Rattle.precision.specs.Steps.{steps}
 use Rattle.precision.specs.Fit.{longest_of}
 use Rattle.precision.specs.Life.{Event, Life}
 use Rattle.precision.specs.Precise.{Agrees, Precise}
-use Rattle.jobs.specs.declared.call.Setup.{Setup}
+use Rattle.pickcore.specs.declared.setup.Setup.{Setup}
 use Rattle.jobs.specs.declared.moved.Moved.{Moved}
 use Rattle.jobs.specs.Precision.{loads_to}
 

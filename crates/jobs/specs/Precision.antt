@@ -8,7 +8,7 @@ use Rattle.precision.specs.Life.{Event, Life}
 use Rattle.precision.specs.Precise.{Precise}
 use Rattle.jobs.specs.declared.call.Call.{Call}
 use Rattle.jobs.specs.declared.call.Answer.{Answer}
-use Rattle.jobs.specs.declared.call.Setup.{Setup}
+use Rattle.pickcore.specs.declared.setup.Setup.{Setup}
 use Rattle.jobs.specs.declared.call.Totals.{Totals}
 use Rattle.jobs.specs.declared.play.NotPlayed.{NotPlayed}
 use Rattle.jobs.specs.declared.play.NotPlayed.TheVariants as not-played

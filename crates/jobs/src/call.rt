@@ -1,45 +1,9 @@
 // A call on a core, as one of a list, and its answer.
-ghost use Rattle.std.specs.Prelude.{◌≡◌, min};
+ghost use Rattle.std.specs.Prelude.{◌≡◌};
 ghost use Rattle.jobs.specs.Play.{steps_in, records_in, copies_in};
-ghost use Rattle.jobs.specs.Setup.{setup_for};
 
 use isa::refusal::Refusal;
-use isa::unit::UNITS;
 use pickcore::record::{CycleRecord, Report};
-
-// What a core is loaded with: the delays of its units, the capacity, and the lengths of program and data.
-#[derive(Clone, Copy)]
-pub struct Setup {
-    pub delays: [u32; UNITS],
-    pub capacity: u32,
-    pub program_length: u32,
-    pub data_length: u32,
-}
-
-impl Setup {
-    // What a core is loaded with for a program and its data words. A length past 32 bits counts as the most of them, which
-    // load declines as it does the length itself.
-    pub fn new(delays: [u32; UNITS], capacity: u32, program: &[u32], data: &[u32]) -> Setup
-        ensures { result ≡ setup_for delays capacity program.now «data».now }
-    {
-        Setup {
-            delays,
-            capacity,
-            program_length: in_32_bits(program.len()),
-            data_length: in_32_bits(data.len()),
-        }
-    }
-}
-
-// A length, or the most of 32 bits.
-fn in_32_bits(length: usize) -> u32
-    ensures { result ≡ min length 4294967295 }
-{
-    if length > 4294967295 {
-        return 4294967295;
-    }
-    length as u32
-}
 
 // A call; the program, the data words and the list of records are those that the whole list of calls is lent.
 #[derive(Drop)]

@@ -5,3 +5,4 @@ pub mod Limits
 pub mod Calls
 pub mod Core
 pub mod Sound
+pub mod Setup

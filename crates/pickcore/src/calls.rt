@@ -7,6 +7,7 @@ ghost use Rattle.pickcore.specs.Core.{machine_of};
 
 use crate::pipeline::Pipeline;
 use crate::record::{CycleRecord, Ending, Report};
+use crate::setup::Setup;
 use crate::stages::Stages;
 use crate::state::Core;
 use images::read::read_image;
@@ -75,39 +76,33 @@ impl<S: Recovery> Core<S> {
 
     // Takes the delays of the units, the capacity, and the lengths of program and data; the core is then stopped, all
     // zero and unrequested.
-    pub fn load(
-        &mut self,
-        delays: [u32; UNITS],
-        capacity: u32,
-        program_length: u32,
-        data_length: u32,
-    ) -> Result<(), Refusal>
-        ensures answer { result ≡ accepted (load_refusal (machine_of S.meaning self.old) delays capacity program_length data_length) }
-        ensures leaves { machine_of S.meaning self.new ≡ load_leaves (machine_of S.meaning self.old) delays capacity program_length data_length }
+    pub fn load(&mut self, setup: Setup) -> Result<(), Refusal>
+        ensures answer { result ≡ accepted (load_refusal (machine_of S.meaning self.old) setup.delays setup.capacity setup.program_length setup.data_length) }
+        ensures leaves { machine_of S.meaning self.new ≡ load_leaves (machine_of S.meaning self.old) setup.delays setup.capacity setup.program_length setup.data_length }
         ensures same { is_err result ≡ true → self.new ≡ self.old }
     {
         if self.running {
             return Err(Refusal::Running);
         }
-        if !delays_fit(&delays) {
+        if !delays_fit(&setup.delays) {
             return Err(Refusal::Delay);
         }
-        if !one_to_sixteen(capacity) {
+        if !one_to_sixteen(setup.capacity) {
             return Err(Refusal::Capacity);
         }
-        if !(1..=4096).contains(&program_length) {
+        if !(1..=4096).contains(&setup.program_length) {
             return Err(Refusal::Program);
         }
-        if data_length > 4096 {
+        if setup.data_length > 4096 {
             return Err(Refusal::Data);
         }
-        let _ = self.pipe.scheme.start(capacity);
+        let _ = self.pipe.scheme.start(setup.capacity);
         self.pipe.stages = Stages::empty();
         self.pipe.next = 0;
         self.pipe.count = 0;
-        self.delays = delays;
-        self.program_length = program_length;
-        self.data_length = data_length;
+        self.delays = setup.delays;
+        self.program_length = setup.program_length;
+        self.data_length = setup.data_length;
         self.cycles = 0;
         self.requested = false;
         self.cause = None;

@@ -5,5 +5,6 @@ pub mod calls;
 mod pipeline;
 pub mod record;
 mod rules;
+pub mod setup;
 mod stages;
 pub mod state;

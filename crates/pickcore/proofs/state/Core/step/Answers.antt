@@ -1,7 +1,7 @@
-use Rattle.std.proofs.Common.{◌≡◌, ℕ, ◌+◌, Bool, false, length, Some, sym, refl, ap, ◌∙◌, arith}
+use Rattle.std.proofs.Common.{◌≡◌, ℕ, ◌+◌, Bool, false, Some, sym, refl, ap, ◌∙◌, arith}
 use Rattle.pickcore.specs.Calls.{Machine, goes_on, after_ending}
 use Rattle.pickcore.specs.Core.{machine_of}
-use Rattle.pickcore.specs.Model.{pipe_of, setting}
+use Rattle.pickcore.specs.Model.{pipe_of}
 use Rattle.pickcore.proofs.Sounds.{steps_sound}
 use Rattle.pickcore.proofs.Stepping.{step_refused, step_taken, still_going}
 use Rattle.pickcore.proofs.state.Core.step.Goals as goal

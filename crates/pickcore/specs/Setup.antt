@@ -1,6 +1,6 @@
 -- What a core is loaded with for a program and its data words.
 use Rattle.std.specs.Prelude.{ℕ, min, List, length}
-use Rattle.jobs.specs.declared.call.Setup.{Setup}
+use Rattle.pickcore.specs.declared.setup.Setup.{Setup}
 
 -- a length past 32 bits counts as the most of them
 abbrev pub setup_for : List ℕ → ℕ → List ℕ → List ℕ → Setup
