@@ -174,8 +174,9 @@ module _ (s : Setting) (base : Plain) where
       one e es Pending v b k = let z : ◌≡◌ {A = ℕ} 0 1 = cc in absurd (omega arith)
       one e es (Done w) v b k = let z : ◌≡◌ {A = ℕ} 0 1 = cc in absurd (omega arith)
       one e es (Faulted g) v b k =
-          let here : e.counter ≡ c = cc in
-          let same : g ≡ f = cc in
+          let trap : ◌≡◌ {A = Trap} (record { counter = c; fault = f }) (record { counter = e.counter; fault = g }) = cc in
+          let here : e.counter ≡ c = sym (ap (λ (x : Trap). x.counter) trap) in
+          let same : g ≡ f = sym (ap (λ (x : Trap). x.fault) trap) in
           let comes = ap (fate p.stages e.tag) v ∙ fate_known p.stages e.tag (Faulted g) refl in
           let does = follow_fault s.code p.next r.now (come_to p.stages e) (foreseen p.stages es) g comes k in
           stop_at r.now p ws (cause.Fault f) c r.ran r.here
