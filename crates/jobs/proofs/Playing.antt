@@ -7,7 +7,6 @@ use Rattle.recovery.specs.declared.Timing.{Timing}
 use Rattle.pickcore.specs.declared.record.CycleRecord.{CycleRecord}
 use Rattle.pickcore.specs.declared.record.Report.{Report}
 use Rattle.pickcore.specs.Calls.{Machine, report_answer}
-use Rattle.pickcore.specs.Sound.{Sound}
 use Rattle.precision.specs.Precise.{reported}
 use Rattle.jobs.specs.declared.call.Call.{Call}
 use Rattle.jobs.specs.declared.call.Answer.{Answer}
@@ -21,7 +20,6 @@ pub record Going (k : Timing) (program : List ℕ) (calls : List Call) (answers 
   pub plays : Plays k program (take i calls) answers records copies m ws t answers' records' copies' n vs
   pub image : plays.image ≡ last
   pub many : length plays.given ≡ i
-  pub sound : Sound m → Sound n
   -- no total can wrap
   pub reports : t.reports ≤ i
   pub instructions : t.instructions ≤ i * 2 ^ 32
@@ -81,7 +79,6 @@ module _ (k : Timing) (program : List ℕ) (calls : List Call) (answers : List A
     plays = record { given = []; rows = []; copied = []; image = []; events = []; played = nothing; answered = refl; recorded = refl; written = refl; totals = refl };
     image = refl;
     many = refl;
-    sound = λ h. h;
     reports = omega arith;
     instructions = omega arith;
     cycles = omega arith;
@@ -171,9 +168,9 @@ module _ (k : Timing) (program : List ℕ) (calls : List Call) (answers : List A
           (subst (λ (ys : List ℕ). Played k program records (length copies) m ws (take i calls ++ (d ∷ [])) (so.plays.given ++ (h.outcome.answer ∷ [])) (so.plays.rows ++ h.outcome.records) (so.plays.copied ++ h.outcome.written) (or_image h.outcome.answer so.plays.image) (h.outcome.events ++ so.plays.events) h.outcome.machine ys) (sym h.words)
           (further d h.outcome so.plays.played made_here))))
 
-      pub going_more : (Sound n → Sound o) → count_of (counted n.running (report_answer o)) ≤ 2 ^ 32 → steps_in a ≤ 2 ^ 64
+      pub going_more : count_of (counted n.running (report_answer o)) ≤ 2 ^ 32 → steps_in a ≤ 2 ^ 64
           → Going k program calls answers records copies m ws (i + 1) (noted t a (counted n.running (report_answer o))) (set answers' i a) records'' copies'' (or_image a last) o us
-      going_more keeps few short = record {
+      going_more few short = record {
         plays = record {
           given = so.plays.given ++ (a ∷ []);
           rows = so.plays.rows ++ h.outcome.records;
@@ -188,7 +185,6 @@ module _ (k : Timing) (program : List ℕ) (calls : List Call) (answers : List A
         };
         image = ap (or_image a) so.image;
         many = length-append so.plays.given (a ∷ []) ∙ ap (λ j. j + 1) so.many;
-        sound = λ x. keeps (so.sound x);
         reports = let l = one_report (counted n.running (report_answer o)) in let p = so.reports in omega arith;
         instructions = let p = so.instructions in omega arith;
         cycles = let p = so.cycles in omega arith;

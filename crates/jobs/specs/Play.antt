@@ -72,6 +72,10 @@ take_up_outcome m ws image = simple m ws (answer.Done (accepted (take_up_refusal
 abbrev pub image_of : Timing → Machine → Result (List ℕ) Refusal
 image_of k m = cond m.running (Err refusal.Running) (Ok (image_words (imaged k m)))
 
+-- the registers of a stopped core, as `registers` answers them
+abbrev pub registers_of : Timing → Machine → Result (List ℕ) Refusal
+registers_of k m = cond m.running (Err refusal.Running) (Ok (registers_answer k m).0)
+
 -- What comes of a call, where `last` are the words of the last image that was answered, `places` is what is left of the
 -- list for records, and `space` is how many data words there is still room for.
 abbrev pub Made : Timing → List ℕ → List ℕ → List CycleRecord → ℕ → Machine → List ℕ → Call → Outcome → Type 0
@@ -84,7 +88,7 @@ Made k program last places space m ws (call.TakeUp image) o = o ≡ take_up_outc
 Made k program last places space m ws call.TakeUpImage o = o ≡ take_up_outcome m ws last
 Made k program last places space m ws (call.Resume c) o = o ≡ simple m ws (answer.Done (accepted (resume_refusal m c))) (deed_unless (resume_refusal m c) (resume c)) (resume_leaves m c)
 Made k program last places space m ws call.Report o = o ≡ simple m ws (answer.Reported (report_answer m)) other m
-Made k program last places space m ws call.Registers o = o ≡ simple m ws (answer.Registers (registers_answer k m).0 (registers_answer k m).1) other m
+Made k program last places space m ws call.Registers o = o ≡ simple m ws (answer.Registers (registers_of k m)) other m
 Made k program last places space m ws call.Image o = o ≡ simple m ws (answer.Imaged (image_of k m)) other m
 Made k program last places space m ws call.Data o =
     o ≡ record { answer = answer.Data (length (take space ws)); records = []; written = take space ws; events = event other m m ws ∷ []; machine = m; words = ws }
@@ -100,7 +104,7 @@ or_image (answer.Stepped r) old = old
 or_image (answer.Ran r) old = old
 or_image (answer.Done r) old = old
 or_image (answer.Reported r) old = old
-or_image (answer.Registers ws x) old = old
+or_image (answer.Registers r) old = old
 or_image (answer.Imaged (Ok ws)) old = ws
 or_image (answer.Imaged (Err x)) old = old
 or_image (answer.Data n) old = old
@@ -164,7 +168,7 @@ steps_in (answer.Ran (Ok c)) = c
 steps_in (answer.Ran (Err x)) = 0
 steps_in (answer.Done r) = 0
 steps_in (answer.Reported r) = 0
-steps_in (answer.Registers ws x) = 0
+steps_in (answer.Registers r) = 0
 steps_in (answer.Imaged r) = 0
 steps_in (answer.Data n) = 0
 
@@ -175,7 +179,7 @@ records_in (answer.Ran (Ok c)) = c
 records_in (answer.Ran (Err x)) = 0
 records_in (answer.Done r) = 0
 records_in (answer.Reported r) = 0
-records_in (answer.Registers ws x) = 0
+records_in (answer.Registers r) = 0
 records_in (answer.Imaged r) = 0
 records_in (answer.Data n) = 0
 
@@ -184,7 +188,7 @@ copies_in (answer.Stepped r) = 0
 copies_in (answer.Ran r) = 0
 copies_in (answer.Done r) = 0
 copies_in (answer.Reported r) = 0
-copies_in (answer.Registers ws x) = 0
+copies_in (answer.Registers r) = 0
 copies_in (answer.Imaged r) = 0
 copies_in (answer.Data n) = n
 

@@ -30,7 +30,7 @@ pub enum Call {
 }
 
 // What a call answers.
-#[derive(Clone, Copy)]
+#[derive(Clone, Copy, PartialEq, Eq, Debug)]
 pub enum Answer {
     Stepped(Result<CycleRecord, Refusal>),
     // how many records the run wrote
@@ -38,8 +38,7 @@ pub enum Answer {
     // of a request, a cut, an amend, a take-up or a resume
     Done(Result<(), Refusal>),
     Reported(Result<Report, Refusal>),
-    // sixteen words and the number 0, or zeros and the number of a refusal
-    Registers([u32; 16], u32),
+    Registers(Result<[u32; 16], Refusal>),
     Imaged(Result<[u32; 36], Refusal>),
     // how many data words were written
     Data(usize),
@@ -78,7 +77,7 @@ impl Answer {
 }
 
 // What a list of calls came to.
-#[derive(Clone, Copy)]
+#[derive(Clone, Copy, PartialEq, Eq, Debug)]
 pub struct Totals {
     // places filled in the list of records, and in the list of data words
     pub records: usize,

@@ -3,8 +3,7 @@ ghost use Rattle.std.specs.Prelude.{◌≡◌, ◌-◌, ◌≤◌, true, length,
 ghost use Rattle.images.specs.Image.{image_words, read_words};
 ghost use Rattle.pickcore.specs.Calls.{imaged, accepted, take_up_refusal, take_up_leaves};
 ghost use Rattle.pickcore.specs.Core.{machine_of};
-ghost use Rattle.pickcore.specs.Sound.{Sound};
-ghost use Rattle.jobs.specs.Play.{RanInto, MadeInto, image_of, words_known, Filled};
+ghost use Rattle.jobs.specs.Play.{RanInto, MadeInto, image_of, registers_of, words_known, Filled};
 
 use crate::call::{Answer, Call};
 use images::layout::IMAGE_WORDS;
@@ -21,6 +20,16 @@ pub(crate) fn image<S: Recovery>(core: &Core<S>) -> Result<[u32; IMAGE_WORDS], R
     let mut words = [0; IMAGE_WORDS];
     core.write_image(&mut words)?;
     Ok(words)
+}
+
+// The registers of a stopped core.
+fn registers<S: Recovery>(core: &Core<S>) -> Result<[u32; 16], Refusal>
+    ensures { result ≡ registers_of S.MARK (machine_of S.meaning core.now) }
+{
+    match core.registers() {
+        (words, 0) => Ok(words),
+        _ => Err(Refusal::Running),
+    }
 }
 
 // Copies as many data words as there is room for, from a place of the list on, and tells how many.
@@ -41,7 +50,6 @@ fn take_up_last<S: Recovery>(
 ) -> Result<(), Refusal>
     ensures answer { result ≡ accepted (take_up_refusal (machine_of S.meaning core.old) (words_known last.now)) }
     ensures leaves { machine_of S.meaning core.new ≡ take_up_leaves (machine_of S.meaning core.old) (words_known last.now) }
-    ensures sound { Sound (machine_of S.meaning core.old) → Sound (machine_of S.meaning core.new) }
 {
     match last {
         Some(words) => core.take_up(words),
@@ -59,8 +67,7 @@ fn run<S: Recovery>(
     from: usize,
 ) -> Result<usize, Refusal>
     requires { from ≤ length records.old }
-    ensures ran { RanInto S.MARK program.now records.old from limit (machine_of S.meaning core.old) «data».old result records.new (machine_of S.meaning core.new) «data».new }
-    ensures sound { Sound (machine_of S.meaning core.old) → Sound (machine_of S.meaning core.new) }
+    ensures { RanInto S.MARK program.now records.old from limit (machine_of S.meaning core.old) «data».old result records.new (machine_of S.meaning core.new) «data».new }
 {
     let most = limit.min(records.len() - from);
     core.run(program, data, &mut records[from..from + most])
@@ -79,8 +86,7 @@ pub(crate) fn make<S: Recovery>(
     copied: usize,
 ) -> Answer
     requires { (used ≤ length records.old) × (copied ≤ length copies.old) }
-    ensures made { MadeInto S.MARK program.now (words_known last.now) records.old used copies.old copied (machine_of S.meaning core.old) «data».old call.now result records.new copies.new (machine_of S.meaning core.new) «data».new }
-    ensures sound { Sound (machine_of S.meaning core.old) → Sound (machine_of S.meaning core.new) }
+    ensures { MadeInto S.MARK program.now (words_known last.now) records.old used copies.old copied (machine_of S.meaning core.old) «data».old call.now result records.new copies.new (machine_of S.meaning core.new) «data».new }
 {
     match call {
         Call::Step => Answer::Stepped(core.step(program, data)),
@@ -92,10 +98,7 @@ pub(crate) fn make<S: Recovery>(
         Call::TakeUpImage => Answer::Done(take_up_last(core, last)),
         Call::Resume(counter) => Answer::Done(core.resume(*counter)),
         Call::Report => Answer::Reported(core.report()),
-        Call::Registers => {
-            let (words, number) = core.registers();
-            Answer::Registers(words, number)
-        }
+        Call::Registers => Answer::Registers(registers(core)),
         Call::Image => Answer::Imaged(image(core)),
         Call::Data => Answer::Data(copy_words(data, copies, copied)),
     }

@@ -1,21 +1,20 @@
 // A job moved from a scanner that stopped to a spare one.
 ghost use Rattle.std.specs.Prelude.{◌≡◌, Bool, true, is_err};
 ghost use Rattle.pickcore.specs.Core.{machine_of};
-ghost use Rattle.pickcore.specs.Sound.{Sound};
-ghost use Rattle.jobs.specs.Setup.{setup_for};
+ghost use Rattle.pickcore.specs.Setup.{setup_for};
 ghost use Rattle.jobs.specs.Move.{Moving};
 
-use crate::call::Setup;
 use crate::make::image;
 use images::layout::IMAGE_WORDS;
 use isa::refusal::Refusal;
 use isa::unit::UNITS;
 use pickcore::record::CycleRecord;
+use pickcore::setup::Setup;
 use pickcore::state::Core;
 use recovery::Recovery;
 
 // The image that moved, and the cycles that the spare ran.
-#[derive(Clone, Copy)]
+#[derive(Clone, Copy, PartialEq, Eq, Debug)]
 pub struct Moved {
     pub image: [u32; IMAGE_WORDS],
     pub cycles: usize,
@@ -43,15 +42,7 @@ pub fn move_job<A: Recovery, B: Recovery>(
         unreachable()
     };
     let setup = Setup::new(delays, capacity, program, data);
-    let loaded = spare.load(
-        setup.delays,
-        setup.capacity,
-        setup.program_length,
-        setup.data_length,
-    );
-    if let Err(refusal) = loaded {
-        return Err(refusal);
-    }
+    spare.load(setup)?;
     // a core just loaded declines none of these
     let Ok(()) = spare.take_up(&image) else {
         unreachable()

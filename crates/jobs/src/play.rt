@@ -1,15 +1,16 @@
 // A list of calls on a core that is loaded first.
 ghost use Rattle.std.specs.Prelude.{◌≡◌, ◌+◌, ◌^◌, ◌<◌, ◌≤◌, Bool, true, length, is_ok, is_err};
 ghost use Rattle.pickcore.specs.Core.{machine_of};
-ghost use Rattle.pickcore.specs.Sound.{Sound};
 ghost use Rattle.jobs.specs.Play.{words_known, or_image, steps_in, records_in, copies_in, counted, count_of, noted, no_totals, Plays};
+ghost use Rattle.jobs.specs.declared.play.NotPlayed.TheVariants.{Load};
 ghost use Rattle.jobs.specs.Precision.{Outcomes, ListsArePrecise};
 
-use crate::call::{Answer, Call, Setup, Totals};
+use crate::call::{Answer, Call, Totals};
 use crate::make::make;
 use images::layout::IMAGE_WORDS;
 use isa::refusal::Refusal;
 use pickcore::record::{CycleRecord, Report};
+use pickcore::setup::Setup;
 use pickcore::state::Core;
 use recovery::Recovery;
 
@@ -74,8 +75,7 @@ fn make_all<S: Recovery>(
     copies: &mut [u32],
 ) -> Totals
     requires { (length calls.now ≤ length answers.old) × ((length records.old < 2 ^ 64) × (length copies.old < 2 ^ 64)) }
-    ensures plays { Plays S.MARK program.now calls.now answers.old records.old copies.old (machine_of S.meaning core.old) «data».old result answers.new records.new copies.new (machine_of S.meaning core.new) «data».new }
-    ensures sound { Sound (machine_of S.meaning core.old) → Sound (machine_of S.meaning core.new) }
+    ensures { Plays S.MARK program.now calls.now answers.old records.old copies.old (machine_of S.meaning core.old) «data».old result answers.new records.new copies.new (machine_of S.meaning core.new) «data».new }
 {
     let mut totals = Totals::none();
     let mut last = None;
@@ -100,12 +100,20 @@ fn make_all<S: Recovery>(
 }
 
 // Why a list of calls was not made.
-#[derive(Clone, Copy)]
+#[derive(Clone, Copy, PartialEq, Eq, Debug)]
 pub enum NotPlayed {
     // there are fewer places for answers than calls
     Answers,
     // the core declined to load
     Load(Refusal),
+}
+
+impl From<Refusal> for NotPlayed {
+    ghost from_gives = { λ refusal reason. reason ≡ Load refusal };
+
+    fn from(refusal: Refusal) -> NotPlayed {
+        NotPlayed::Load(refusal)
+    }
 }
 
 // Loads a core and makes a list of calls on it, each lent the program, the data words, and what is left of the lists. The
@@ -126,20 +134,11 @@ pub fn play<S: Recovery>(
 ) -> Result<Totals, NotPlayed>
     ensures outcome { Outcomes S.MARK program.now setup calls.now answers.old records.old copies.old (machine_of S.meaning core.old) «data».old result answers.new records.new copies.new (machine_of S.meaning core.new) «data».new }
     ensures same { is_err result ≡ true → core.new ≡ core.old }
-    ensures sound { is_ok result ≡ true → Sound (machine_of S.meaning core.new) }
 {
     if answers.len() < calls.len() {
         return Err(NotPlayed::Answers);
     }
-    let loaded = core.load(
-        setup.delays,
-        setup.capacity,
-        setup.program_length,
-        setup.data_length,
-    );
-    if let Err(refusal) = loaded {
-        return Err(NotPlayed::Load(refusal));
-    }
+    core.load(setup)?;
     Ok(make_all(core, program, data, calls, answers, records, copies))
 }
 

@@ -12,7 +12,4 @@ returns g c =
     let m = machine_of g.S.Recovery.meaning c.args.core.now in
     let n = machine_of g.S.Recovery.meaning c.run.new.self in
     let length_part : length (take ((from + most) - from) (drop from before)) ≡ (from + most) - from = let l = length-drop from before in length-take-le ((from + most) - from) (drop from before) (omega arith) in
-    record {
-      ran = ran_into g.S.Recovery.MARK c.args.program.now before from c.args.limit ((from + most) - from) m c.args.data.now c.run.result c.run.new.records n c.run.new.data c.requires (omega arith) (c.run.auto.records ∙ length_part) c.run.ensures.runs;
-      sound = c.run.ensures.sound;
-    }
+    ran_into g.S.Recovery.MARK c.args.program.now before from c.args.limit ((from + most) - from) m c.args.data.now c.run.result c.run.new.records n c.run.new.data c.requires (omega arith) (c.run.auto.records ∙ length_part) c.run.ensures.runs

@@ -24,8 +24,8 @@ make-answer-requires g c = (
 
 pub note-requires : goal.note-requires
 note-requires g c =
-    let r = used_more g.S.Recovery.MARK c.args.program.now c.args.calls.now c.args.answers.now c.args.records.now c.args.copies.now (machine_of g.S.Recovery.meaning c.args.core.now) c.args.data.now c.loop-i.i c.loop-i.totals c.loop-i.answers c.loop-i.records c.loop-i.copies (words_known c.loop-i.last) (machine_of g.S.Recovery.meaning c.loop-i.core) c.loop-i.data c.loop-i.invariant c.loop-i.auto.records c.loop-i.auto.copies c.index-calls-i.result c.make-answer.result c.make-answer.new.records c.make-answer.new.copies (machine_of g.S.Recovery.meaning c.make-answer.new.core) c.make-answer.new.data c.loop-i-test.true (omega arith) (one_more c.args.calls.now c.loop-i.i c.index-calls-i.result c.loop-i-test.true c.index-calls-i.is) c.make-answer.ensures.made (c.make-answer.auto.records ∙ c.loop-i.auto.records) in
-    let w = copied_more g.S.Recovery.MARK c.args.program.now c.args.calls.now c.args.answers.now c.args.records.now c.args.copies.now (machine_of g.S.Recovery.meaning c.args.core.now) c.args.data.now c.loop-i.i c.loop-i.totals c.loop-i.answers c.loop-i.records c.loop-i.copies (words_known c.loop-i.last) (machine_of g.S.Recovery.meaning c.loop-i.core) c.loop-i.data c.loop-i.invariant c.loop-i.auto.records c.loop-i.auto.copies c.index-calls-i.result c.make-answer.result c.make-answer.new.records c.make-answer.new.copies (machine_of g.S.Recovery.meaning c.make-answer.new.core) c.make-answer.new.data c.loop-i-test.true (omega arith) (one_more c.args.calls.now c.loop-i.i c.index-calls-i.result c.loop-i-test.true c.index-calls-i.is) c.make-answer.ensures.made (c.make-answer.auto.copies ∙ c.loop-i.auto.copies) in
+    let r = used_more g.S.Recovery.MARK c.args.program.now c.args.calls.now c.args.answers.now c.args.records.now c.args.copies.now (machine_of g.S.Recovery.meaning c.args.core.now) c.args.data.now c.loop-i.i c.loop-i.totals c.loop-i.answers c.loop-i.records c.loop-i.copies (words_known c.loop-i.last) (machine_of g.S.Recovery.meaning c.loop-i.core) c.loop-i.data c.loop-i.invariant c.loop-i.auto.records c.loop-i.auto.copies c.index-calls-i.result c.make-answer.result c.make-answer.new.records c.make-answer.new.copies (machine_of g.S.Recovery.meaning c.make-answer.new.core) c.make-answer.new.data c.loop-i-test.true (omega arith) (one_more c.args.calls.now c.loop-i.i c.index-calls-i.result c.loop-i-test.true c.index-calls-i.is) c.make-answer.ensures (c.make-answer.auto.records ∙ c.loop-i.auto.records) in
+    let w = copied_more g.S.Recovery.MARK c.args.program.now c.args.calls.now c.args.answers.now c.args.records.now c.args.copies.now (machine_of g.S.Recovery.meaning c.args.core.now) c.args.data.now c.loop-i.i c.loop-i.totals c.loop-i.answers c.loop-i.records c.loop-i.copies (words_known c.loop-i.last) (machine_of g.S.Recovery.meaning c.loop-i.core) c.loop-i.data c.loop-i.invariant c.loop-i.auto.records c.loop-i.auto.copies c.index-calls-i.result c.make-answer.result c.make-answer.new.records c.make-answer.new.copies (machine_of g.S.Recovery.meaning c.make-answer.new.core) c.make-answer.new.data c.loop-i-test.true (omega arith) (one_more c.args.calls.now c.loop-i.i c.index-calls-i.result c.loop-i-test.true c.index-calls-i.is) c.make-answer.ensures (c.make-answer.auto.copies ∙ c.loop-i.auto.copies) in
     let p = c.loop-i.invariant.reports in
     let x = c.loop-i.invariant.instructions in
     let y = c.loop-i.invariant.cycles in
@@ -42,7 +42,7 @@ loop-i-preserved g c =
     let made : c.report_made.result ≡ counted c.loop-i.core.running (report_answer o) =
     c.report_made.ensures.value ∙ (ap (λ b. counted b c.report-in-loop-i.result) ran ∙ ap (counted c.loop-i.core.running) c.report-in-loop-i.ensures) in
     let few : count_of (counted c.loop-i.core.running (report_answer o)) ≤ 2 ^ 32 = subst (λ x. count_of x ≤ 2 ^ 32) made c.report_made.ensures.few in
-    let on = going_more g.S.Recovery.MARK c.args.program.now c.args.calls.now c.args.answers.now c.args.records.now c.args.copies.now (machine_of g.S.Recovery.meaning c.args.core.now) c.args.data.now c.loop-i.i c.loop-i.totals c.loop-i.answers c.loop-i.records c.loop-i.copies (words_known c.loop-i.last) (machine_of g.S.Recovery.meaning c.loop-i.core) c.loop-i.data c.loop-i.invariant c.loop-i.auto.records c.loop-i.auto.copies c.index-calls-i.result c.make-answer.result c.make-answer.new.records c.make-answer.new.copies (machine_of g.S.Recovery.meaning c.make-answer.new.core) c.make-answer.new.data c.loop-i-test.true (omega arith) (one_more c.args.calls.now c.loop-i.i c.index-calls-i.result c.loop-i-test.true c.index-calls-i.is) c.make-answer.ensures.made c.make-answer.ensures.sound few c.note.ensures.short in
+    let on = going_more g.S.Recovery.MARK c.args.program.now c.args.calls.now c.args.answers.now c.args.records.now c.args.copies.now (machine_of g.S.Recovery.meaning c.args.core.now) c.args.data.now c.loop-i.i c.loop-i.totals c.loop-i.answers c.loop-i.records c.loop-i.copies (words_known c.loop-i.last) (machine_of g.S.Recovery.meaning c.loop-i.core) c.loop-i.data c.loop-i.invariant c.loop-i.auto.records c.loop-i.auto.copies c.index-calls-i.result c.make-answer.result c.make-answer.new.records c.make-answer.new.copies (machine_of g.S.Recovery.meaning c.make-answer.new.core) c.make-answer.new.data c.loop-i-test.true (omega arith) (one_more c.args.calls.now c.loop-i.i c.index-calls-i.result c.loop-i-test.true c.index-calls-i.is) c.make-answer.ensures few c.note.ensures.short in
     subst (λ (t : Totals). Going g.S.Recovery.MARK c.args.program.now c.args.calls.now c.args.answers.now c.args.records.now c.args.copies.now (machine_of g.S.Recovery.meaning c.args.core.now) c.args.data.now (c.loop-i.i + 1) t (set c.loop-i.answers c.loop-i.i c.make-answer.result) c.make-answer.new.records c.make-answer.new.copies (words_known c.newest_image-last.result) (machine_of g.S.Recovery.meaning c.make-answer.new.core) c.make-answer.new.data)
     (sym (c.note.ensures.totals ∙ ap (noted c.loop-i.totals c.make-answer.result) made))
     (subst (λ (ws : List ℕ). Going g.S.Recovery.MARK c.args.program.now c.args.calls.now c.args.answers.now c.args.records.now c.args.copies.now (machine_of g.S.Recovery.meaning c.args.core.now) c.args.data.now (c.loop-i.i + 1) (noted c.loop-i.totals c.make-answer.result (counted c.loop-i.core.running (report_answer (machine_of g.S.Recovery.meaning c.make-answer.new.core)))) (set c.loop-i.answers c.loop-i.i c.make-answer.result) c.make-answer.new.records c.make-answer.new.copies ws (machine_of g.S.Recovery.meaning c.make-answer.new.core) c.make-answer.new.data)
@@ -51,7 +51,4 @@ loop-i-preserved g c =
 pub returns : goal.returns
 returns g c =
     let all = take_all c.loop-i.i c.args.calls.now c.loop-i-test.false in
-    record {
-      plays = subst (λ (cs : List Call). Plays g.S.Recovery.MARK c.args.program.now cs c.args.answers.now c.args.records.now c.args.copies.now (machine_of g.S.Recovery.meaning c.args.core.now) c.args.data.now c.loop-i.totals c.loop-i.answers c.loop-i.records c.loop-i.copies (machine_of g.S.Recovery.meaning c.loop-i.core) c.loop-i.data) all c.loop-i.invariant.plays;
-      sound = c.loop-i.invariant.sound;
-    }
+    subst (λ (cs : List Call). Plays g.S.Recovery.MARK c.args.program.now cs c.args.answers.now c.args.records.now c.args.copies.now (machine_of g.S.Recovery.meaning c.args.core.now) c.args.data.now c.loop-i.totals c.loop-i.answers c.loop-i.records c.loop-i.copies (machine_of g.S.Recovery.meaning c.loop-i.core) c.loop-i.data) all c.loop-i.invariant.plays

@@ -8,11 +8,10 @@ pub returns : goal.returns
 returns g c =
     let m = machine_of g.S.Recovery.meaning c.args.core.now in
     let s = c.args.setup in
-    let ok = accepted_none (load_refusal m s.delays s.capacity s.program_length s.data_length) c.in_default.field-0 c.in_default.ensures.answer in
+    let ok = accepted_none (load_refusal m s.delays s.capacity s.program_length s.data_length) tt c.in_ok-load.ensures.answer in
     record {
-      outcome = precisely g.S.Recovery.MARK c.args.program.now s c.args.calls.now c.args.answers.now c.args.records.now c.args.copies.now m (machine_of g.S.Recovery.meaning c.load-loaded.new.self) c.args.data.now
+      outcome = precisely g.S.Recovery.MARK c.args.program.now s c.args.calls.now c.args.answers.now c.args.records.now c.args.copies.now m (machine_of g.S.Recovery.meaning c.load.new.self) c.args.data.now
           c.make_all.result c.make_all.new.answers c.make_all.new.records c.make_all.new.copies (machine_of g.S.Recovery.meaning c.make_all.new.core) c.make_all.new.data
-          c.if-answers-calls.false ok c.load-loaded.new.self.units c.load-loaded.ensures.leaves c.make_all.ensures.plays;
+          c.if-answers-calls.false ok c.load.new.self.units c.load.ensures.leaves c.make_all.ensures;
       same = λ e. let z : ◌≡◌ {A = ℕ} 0 1 = cc in absurd (omega arith);
-      sound = λ _. c.make_all.ensures.sound (c.in_default.ensures.made refl);
     }
