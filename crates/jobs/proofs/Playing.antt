@@ -1,6 +1,6 @@
 -- A list of calls, one call more at a time.
-use Rattle.std.proofs.Common.{◌≡◌, ℕ, ◌+◌, ◌-◌, ◌*◌, ◌^◌, ◌<◌, ◌≤◌, Bool, true, false, cond, List, [], ◌∷◌, ◌++◌, length, get_or, take, drop, set, is_err, Some, None, Ok, Err, Option, Result, sym, refl, ap, ◌∙◌, subst, append_assoc, arith, length-append, length-drop}
-use Rattle.std.proofs.lemmas.List.{take_at, drop_at, drop-drop, drop_more, set-append_right}
+use Rattle.std.proofs.Common.{◌≡◌, ℕ, ◌+◌, ◌-◌, ◌*◌, ◌^◌, ◌<◌, ◌≤◌, Bool, true, false, cond, List, [], ◌∷◌, ◌++◌, length, get_or, take, drop, set, is_err, Some, None, Ok, Err, Option, Result, sym, refl, ap, ◌∙◌, subst, append_assoc, append-nil, arith, length-append, length-drop}
+use Rattle.std.proofs.lemmas.List.{take_all, drop_all, take-append-drop, take_at, drop_at, drop-drop, drop_more, set-append_right}
 use Rattle.isa.specs.declared.refusal.Refusal.{Refusal}
 use Rattle.isa.specs.declared.refusal.Refusal.TheVariants as refusal
 use Rattle.recovery.specs.declared.Timing.{Timing}
@@ -25,14 +25,18 @@ pub record Going (k : Timing) (program : List ℕ) (calls : List Call) (answers 
   pub instructions : t.instructions ≤ i * 2 ^ 32
   pub cycles : t.cycles ≤ i * 2 ^ 64
 
+-- what is left of a list of places
+left_over : {X : Type 0} (rows before now : List X) → now ≡ rows ++ drop (length rows) before → drop (length rows) now ≡ drop (length rows) before
+left_over rows before now e = ap (drop (length rows)) e ∙ drop_at rows (drop (length rows) before) (length rows) refl
+
 -- places that are filled from the front, and some more of them
-fill_more : {X : Type 0} (rows more before now after : List X) → now ≡ rows ++ drop (length rows) before → Filled now (length rows) more after → after ≡ (rows ++ more) ++ drop (length (rows ++ more)) before
-fill_more rows more before now after e f =
+fill_more : {X : Type 0} (rows more before now rest : List X) → now ≡ rows ++ drop (length rows) before → Filled (drop (length rows) now) more rest
+    → take (length rows) now ++ rest ≡ (rows ++ more) ++ drop (length (rows ++ more)) before
+fill_more rows more before now rest e f =
     let a : take (length rows) now ≡ rows = ap (take (length rows)) e ∙ take_at rows (drop (length rows) before) (length rows) refl in
-    let b : drop (length rows) now ≡ drop (length rows) before = ap (drop (length rows)) e ∙ drop_at rows (drop (length rows) before) (length rows) refl in
-    let c : drop (length rows + length more) now ≡ drop (length (rows ++ more)) before =
-    sym (drop-drop (length more) (length rows) now) ∙ (ap (drop (length more)) b ∙ (drop-drop (length more) (length rows) before ∙ ap (λ n. drop n before) (sym (length-append rows more)))) in
-    f ∙ (ap (λ xs. xs ++ (more ++ drop (length rows + length more) now)) a ∙ (ap (λ xs. rows ++ (more ++ xs)) c ∙ sym (append_assoc rows more (drop (length (rows ++ more)) before))))
+    let c : drop (length more) (drop (length rows) now) ≡ drop (length (rows ++ more)) before =
+    ap (drop (length more)) (left_over rows before now e) ∙ (drop-drop (length more) (length rows) before ∙ ap (λ n. drop n before) (sym (length-append rows more))) in
+    ap (λ xs. xs ++ rest) a ∙ (ap (λ xs. rows ++ xs) (f ∙ ap (λ xs. more ++ xs) c) ∙ sym (append_assoc rows more (drop (length (rows ++ more)) before)))
 
 -- one answer more
 answer_more : (given before now : List Answer) (i : ℕ) (a : Answer) → length given ≡ i → i < length before → now ≡ given ++ drop (length given) before → set now i a ≡ (given ++ (a ∷ [])) ++ drop (length (given ++ (a ∷ []))) before
@@ -53,9 +57,16 @@ within rows before now e l =
     let b = length-drop (length rows) before in
     omega arith
 
--- what is left of a list of places
-left_over : {X : Type 0} (rows before now : List X) → now ≡ rows ++ drop (length rows) before → drop (length rows) now ≡ drop (length rows) before
-left_over rows before now e = ap (drop (length rows)) e ∙ drop_at rows (drop (length rows) before) (length rows) refl
+-- what is put back in the place of as much leaves a list as long as it was
+put_length : {X : Type 0} (before new : List X) (n k : ℕ) → n ≤ length before → length new ≡ length (take k (drop n before)) → length (take n before ++ (new ++ drop k (drop n before))) ≡ length before
+put_length before new n k l e =
+    let a = length-append (take n before) (new ++ drop k (drop n before)) in
+    let b = length-append new (drop k (drop n before)) in
+    let c = length-append (take k (drop n before)) (drop k (drop n before)) in
+    let d = ap length (take-append-drop k (drop n before)) in
+    let f = length-append (take n before) (drop n before) in
+    let g = ap length (take-append-drop n before) in
+    omega arith
 
 -- a core that declines to report runs
 pub asked_running : (m : Machine) (r : Result Report Refusal) → r ≡ report_answer m → is_err r ≡ m.running
@@ -100,9 +111,19 @@ module _ (k : Timing) (program : List ℕ) (calls : List Call) (answers : List A
         let l = within so.plays.copied copies copies' so.plays.written same_copies in
         omega arith
 
-    module _ (d : Call) (a : Answer) (records'' : List CycleRecord) (copies'' : List ℕ) (o : Machine) (us : List ℕ)
+    -- one call, lent what is left of the lists, which then stands in them again
+    module _ (d : Call) (a : Answer) (rows space : ℕ) (rest : List CycleRecord) (left : List ℕ) (records'' : List CycleRecord) (copies'' : List ℕ) (o : Machine) (us : List ℕ)
         (inside : i < length calls) (room : i < length answers) (is : take (i + 1) calls ≡ take i calls ++ (d ∷ []))
-        (h : MadeInto k program last records' t.records copies' t.words n vs d a records'' copies'' o us) where
+        (all_rows : rows ≡ length records' - t.records) (all_space : space ≡ length copies' - t.words)
+        (made : MadeInto k program last (take rows (drop t.records records')) (take space (drop t.words copies')) n vs d a rest left o us)
+        (put_rows : records'' ≡ take t.records records' ++ (rest ++ drop rows (drop t.records records'))) (put_space : copies'' ≡ take t.words copies' ++ (left ++ drop space (drop t.words copies'))) where
+      h : MadeInto k program last (drop t.records records') (drop t.words copies') n vs d a rest left o us
+      h =
+          let e = length-drop t.records records' in
+          let f = length-drop t.words copies' in
+          subst (λ xs. MadeInto k program last xs (drop t.words copies') n vs d a rest left o us) (take_all rows (drop t.records records') (omega arith))
+          (subst (λ ys. MadeInto k program last (take rows (drop t.records records')) ys n vs d a rest left o us) (take_all space (drop t.words copies') (omega arith)) made)
+
       rows_now : t.records ≡ length so.plays.rows
       rows_now = ap (λ (x : Totals). x.records) so.plays.totals
 
@@ -113,10 +134,10 @@ module _ (k : Timing) (program : List ℕ) (calls : List Call) (answers : List A
       made_here : Made k program so.plays.image (drop (length so.plays.rows) records) (length copies - length so.plays.copied) n vs d h.outcome
       made_here =
           let places : drop t.records records' ≡ drop (length so.plays.rows) records = ap (λ j. drop j records') rows_now ∙ left_over so.plays.rows records records' so.plays.recorded in
-          let space : length copies' - t.words ≡ length copies - length so.plays.copied = let e = copied_now in omega arith in
+          let space : length (drop t.words copies') ≡ length copies - length so.plays.copied = let e = copied_now in let f = length-drop t.words copies' in omega arith in
           subst (λ xs. Made k program xs (drop (length so.plays.rows) records) (length copies - length so.plays.copied) n vs d h.outcome) (sym so.image)
           (subst (λ j. Made k program last (drop (length so.plays.rows) records) j n vs d h.outcome) space
-          (subst (λ ps. Made k program last ps (length copies' - t.words) n vs d h.outcome) places h.made))
+          (subst (λ ps. Made k program last ps (length (drop t.words copies')) n vs d h.outcome) places h.made))
 
       totals_more : noted t a (counted n.running (report_answer o)) ≡ record {
         records = length (so.plays.rows ++ h.outcome.records);
@@ -147,17 +168,32 @@ module _ (k : Timing) (program : List ℕ) (calls : List Call) (answers : List A
           let qc = q.cycles in
           totals_same (omega arith) (omega arith) (omega arith) (omega arith) (omega arith)
 
+      -- the lists as the call leaves them
+      records_filled : records'' ≡ (so.plays.rows ++ h.outcome.records) ++ drop (length (so.plays.rows ++ h.outcome.records)) records
+      records_filled =
+          let e = length-drop t.records records' in
+          put_rows ∙ (ap (λ ys. take t.records records' ++ (rest ++ ys)) (drop_all rows (drop t.records records') (omega arith)) ∙ (ap (λ ys. take t.records records' ++ ys) (append-nil rest)
+          ∙ (ap (λ j. take j records' ++ rest) rows_now
+          ∙ fill_more so.plays.rows h.outcome.records records records' rest so.plays.recorded (subst (λ j. Filled (drop j records') h.outcome.records rest) rows_now h.records_filled))))
+
+      copies_filled : copies'' ≡ (so.plays.copied ++ h.outcome.written) ++ drop (length (so.plays.copied ++ h.outcome.written)) copies
+      copies_filled =
+          let e = length-drop t.words copies' in
+          put_space ∙ (ap (λ ys. take t.words copies' ++ (left ++ ys)) (drop_all space (drop t.words copies') (omega arith)) ∙ (ap (λ ys. take t.words copies' ++ ys) (append-nil left)
+          ∙ (ap (λ j. take j copies' ++ left) copied_now
+          ∙ fill_more so.plays.copied h.outcome.written copies copies' left so.plays.written (subst (λ j. Filled (drop j copies') h.outcome.written left) copied_now h.copies_filled))))
+
       -- the lists are long enough for what the call filled
-      pub used_more : length records'' ≡ length records → t.records + records_in a ≤ length records
+      pub used_more : length rest ≡ length (take rows (drop t.records records')) → t.records + records_in a ≤ length records
       used_more l =
           let e = ap (λ (x : Totals). x.records) totals_more in
-          let w = within (so.plays.rows ++ h.outcome.records) records records'' (fill_more so.plays.rows h.outcome.records records records' records'' so.plays.recorded (subst (λ j. Filled records' j h.outcome.records records'') rows_now h.records_filled)) l in
+          let w = within (so.plays.rows ++ h.outcome.records) records records'' records_filled (ap length put_rows ∙ (put_length records' rest t.records rows used l ∙ same_records)) in
           omega arith
 
-      pub copied_more : length copies'' ≡ length copies → t.words + copies_in a ≤ length copies
+      pub copied_more : length left ≡ length (take space (drop t.words copies')) → t.words + copies_in a ≤ length copies
       copied_more l =
           let e = ap (λ (x : Totals). x.words) totals_more in
-          let w = within (so.plays.copied ++ h.outcome.written) copies copies'' (fill_more so.plays.copied h.outcome.written copies copies' copies'' so.plays.written (subst (λ j. Filled copies' j h.outcome.written copies'') copied_now h.copies_filled)) l in
+          let w = within (so.plays.copied ++ h.outcome.written) copies copies'' copies_filled (ap length put_space ∙ (put_length copies' left t.words space copied l ∙ same_copies)) in
           omega arith
 
       played_more : Played k program records (length copies) m ws (take (i + 1) calls) (so.plays.given ++ (a ∷ [])) (so.plays.rows ++ h.outcome.records) (so.plays.copied ++ h.outcome.written) (or_image a so.plays.image) (h.outcome.events ++ so.plays.events) o us
@@ -179,8 +215,8 @@ module _ (k : Timing) (program : List ℕ) (calls : List Call) (answers : List A
           events = h.outcome.events ++ so.plays.events;
           played = played_more;
           answered = answer_more so.plays.given answers answers' i a so.many room so.plays.answered;
-          recorded = fill_more so.plays.rows h.outcome.records records records' records'' so.plays.recorded (subst (λ j. Filled records' j h.outcome.records records'') rows_now h.records_filled);
-          written = fill_more so.plays.copied h.outcome.written copies copies' copies'' so.plays.written (subst (λ j. Filled copies' j h.outcome.written copies'') copied_now h.copies_filled);
+          recorded = records_filled;
+          written = copies_filled;
           totals = totals_more;
         };
         image = ap (or_image a) so.image;

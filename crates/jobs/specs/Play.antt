@@ -117,26 +117,26 @@ pub data Played (k : Timing) (program : List ℕ) (places : List CycleRecord) (s
       → Played k program places space m ws cs xs rs us last es n vs → Made k program last (drop (length rs) places) (space - length us) n vs c o
       → Played k program places space m ws (cs ++ (c ∷ [])) (xs ++ (o.answer ∷ [])) (rs ++ o.records) (us ++ o.written) (or_image o.answer last) (o.events ++ es) o.machine o.words
 
--- some things were written into a list from a place on, and the rest stays
-abbrev pub Filled : {X : Type 0} → List X → ℕ → List X → List X → Type 0
-Filled before from xs after = after ≡ take from before ++ (xs ++ drop (from + length xs) before)
+-- some things were written into a list from its front on, and later places stay
+abbrev pub Filled : {X : Type 0} → List X → List X → List X → Type 0
+Filled before xs after = after ≡ xs ++ drop (length xs) before
 
--- a run into the places of a list from one on, at most so many as its limit: what came of it, and the list after it
-pub record RanInto (k : Timing) (program : List ℕ) (before : List CycleRecord) (from limit : ℕ) (m : Machine) (ws : List ℕ) (r : Result ℕ Refusal) (after : List CycleRecord) (n : Machine) (vs : List ℕ) : Type 0 where
+-- a run into the first places of a list, at most so many as its limit: what came of it, and the list after it
+pub record RanInto (k : Timing) (program : List ℕ) (before : List CycleRecord) (limit : ℕ) (m : Machine) (ws : List ℕ) (r : Result ℕ Refusal) (after : List CycleRecord) (n : Machine) (vs : List ℕ) : Type 0 where
   pub records : List CycleRecord
   pub events : List Event
-  pub is : RunBy k program (take limit (drop from before)) m ws (step_refusal m (length program) (length ws)) (record { answer = answer.Ran r; records = records; written = []; events = events; machine = n; words = vs })
-  pub filled : Filled before from records after
+  pub is : RunBy k program (take limit before) m ws (step_refusal m (length program) (length ws)) (record { answer = answer.Ran r; records = records; written = []; events = events; machine = n; words = vs })
+  pub filled : Filled before records after
 
--- a call of a list whose records stand from one place on and whose data words from another: what came of it, and the lists after it
-pub record MadeInto (k : Timing) (program last : List ℕ) (records : List CycleRecord) (used : ℕ) (copies : List ℕ) (copied : ℕ) (m : Machine) (ws : List ℕ) (c : Call) (a : Answer) (records' : List CycleRecord) (copies' : List ℕ) (n : Machine) (vs : List ℕ) : Type 0 where
+-- a call of a list, lent what is left of the lists for records and for data words: what came of it, and these lists after it
+pub record MadeInto (k : Timing) (program last : List ℕ) (records : List CycleRecord) (copies : List ℕ) (m : Machine) (ws : List ℕ) (c : Call) (a : Answer) (records' : List CycleRecord) (copies' : List ℕ) (n : Machine) (vs : List ℕ) : Type 0 where
   pub outcome : Outcome
-  pub made : Made k program last (drop used records) (length copies - copied) m ws c outcome
+  pub made : Made k program last records (length copies) m ws c outcome
   pub answers : a ≡ outcome.answer
   pub core : n ≡ outcome.machine
   pub words : vs ≡ outcome.words
-  pub records_filled : Filled records used outcome.records records'
-  pub copies_filled : Filled copies copied outcome.written copies'
+  pub records_filled : Filled records outcome.records records'
+  pub copies_filled : Filled copies outcome.written copies'
 
 -- What some events come to: the reports made, the instructions that these count together, and the cycles.
 

@@ -32,14 +32,13 @@ fn registers<S: Recovery>(core: &Core<S>) -> Result<[u32; 16], Refusal>
     }
 }
 
-// Copies as many data words as there is room for, from a place of the list on, and tells how many.
-fn copy_words(data: &[u32], words: &mut [u32], from: usize) -> usize
-    requires { from ≤ length words.old }
-    ensures answer { result ≡ length (take (length words.old - from) «data».now) }
-    ensures filled { Filled words.old from (take (length words.old - from) «data».now) words.new }
+// Copies as many data words as there is room for, and tells how many.
+fn copy_words(data: &[u32], words: &mut [u32]) -> usize
+    ensures answer { result ≡ length (take (length words.old) «data».now) }
+    ensures filled { Filled words.old (take (length words.old) «data».now) words.new }
 {
-    let many = data.len().min(words.len() - from);
-    words[from..from + many].copy_from_slice(&data[0..many]);
+    let many = data.len().min(words.len());
+    words[..many].copy_from_slice(&data[..many]);
     many
 }
 
@@ -57,20 +56,18 @@ fn take_up_last<S: Recovery>(
     }
 }
 
-// A run of at most so many cycles, from a place of the list on.
+// A run of at most so many cycles, and no more than there are places.
 fn run<S: Recovery>(
     core: &mut Core<S>,
     limit: usize,
     program: &[u32],
     data: &mut [u32],
     records: &mut [CycleRecord],
-    from: usize,
 ) -> Result<usize, Refusal>
-    requires { from ≤ length records.old }
-    ensures { RanInto S.MARK program.now records.old from limit (machine_of S.meaning core.old) «data».old result records.new (machine_of S.meaning core.new) «data».new }
+    ensures { RanInto S.MARK program.now records.old limit (machine_of S.meaning core.old) «data».old result records.new (machine_of S.meaning core.new) «data».new }
 {
-    let most = limit.min(records.len() - from);
-    core.run(program, data, &mut records[from..from + most])
+    let most = limit.min(records.len());
+    core.run(program, data, &mut records[..most])
 }
 
 // One call of a list, lent the program, the data words, and what is left of the lists.
@@ -81,16 +78,13 @@ pub(crate) fn make<S: Recovery>(
     program: &[u32],
     data: &mut [u32],
     records: &mut [CycleRecord],
-    used: usize,
     copies: &mut [u32],
-    copied: usize,
 ) -> Answer
-    requires { (used ≤ length records.old) × (copied ≤ length copies.old) }
-    ensures { MadeInto S.MARK program.now (words_known last.now) records.old used copies.old copied (machine_of S.meaning core.old) «data».old call.now result records.new copies.new (machine_of S.meaning core.new) «data».new }
+    ensures { MadeInto S.MARK program.now (words_known last.now) records.old copies.old (machine_of S.meaning core.old) «data».old call.now result records.new copies.new (machine_of S.meaning core.new) «data».new }
 {
     match call {
         Call::Step => Answer::Stepped(core.step(program, data)),
-        Call::Run(limit) => Answer::Ran(run(core, *limit, program, data, records, used)),
+        Call::Run(limit) => Answer::Ran(run(core, *limit, program, data, records)),
         Call::Request => Answer::Done(core.request()),
         Call::Cut => Answer::Done(core.cut()),
         Call::Amend(register, word) => Answer::Done(core.amend(*register, *word)),
@@ -100,6 +94,6 @@ pub(crate) fn make<S: Recovery>(
         Call::Report => Answer::Reported(core.report()),
         Call::Registers => Answer::Registers(registers(core)),
         Call::Image => Answer::Imaged(image(core)),
-        Call::Data => Answer::Data(copy_words(data, copies, copied)),
+        Call::Data => Answer::Data(copy_words(data, copies)),
     }
 }

@@ -87,10 +87,8 @@ fn make_all<S: Recovery>(
             &last,
             program,
             data,
-            records,
-            totals.records,
-            copies,
-            totals.words,
+            &mut records[totals.records..],
+            &mut copies[totals.words..],
         );
         totals.note(&answer, report_made(ran, core.report()));
         last = newest_image(&answer, last);

@@ -1,4 +1,4 @@
-use Rattle.std.proofs.Common.{◌≡◌, ℕ, refl, arith}
+use Rattle.std.proofs.Common.{◌≡◌, ℕ, arith}
 use Rattle.pickcore.specs.Calls.{load_refusal}
 use Rattle.pickcore.specs.Core.{machine_of}
 use Rattle.jobs.proofs.Living.{precisely, accepted_none}
