@@ -11,7 +11,7 @@ ghost use Rattle.reorder.specs.Steps.{mean_length};
 
 use isa::fault::Fault;
 use recovery::slots::{Slot, put_word};
-use recovery::{Admitted, Recovery, Retired, Timing};
+use recovery::{AdmitError, Recovery, Timing, Trap};
 use reorder::buffer::Buffer;
 
 // Sources are read from the newest file, which takes each word as it is delivered. The buffer settles the same words
@@ -38,7 +38,7 @@ fn write_result(file: &mut [u32; 16], taker: Option<Slot>, outcome: Result<u32, 
 impl Recovery for FutureFile {
     const MARK: Timing = Timing::Early;
 
-    ghost timing = { Early };
+    ghost MARK = { Early };
 
     ghost meaning = { λ s. mean s.buffer };
 
@@ -49,10 +49,6 @@ impl Recovery for FutureFile {
     ghost most = { first_of (Prim.search rules, Prim.grind (arith, Self.row.coded.inj)) };
 
     ghost roomy = { λ s. omega (arith, mean_length s.buffer) };
-
-    fn timing_mark() -> Timing {
-        Self::MARK
-    }
 
     fn fresh() -> FutureFile {
         FutureFile {
@@ -77,7 +73,7 @@ impl Recovery for FutureFile {
         true
     }
 
-    fn admit(&mut self, counter: u16, destination: Option<u8>) -> Admitted {
+    fn admit(&mut self, counter: u16, destination: Option<u8>) -> Result<u8, AdmitError> {
         self.buffer.admit(counter, destination)
     }
 
@@ -98,7 +94,7 @@ impl Recovery for FutureFile {
         self.buffer.oldest()
     }
 
-    fn retire(&mut self) -> Retired {
+    fn retire(&mut self) -> Result<Option<u16>, Trap> {
         self.buffer.retire()
     }
 

@@ -6,7 +6,7 @@ use Rattle.std.proofs.lemmas.Bool.{and_left, and_right, and_parts, le-ltb, le-le
 use Rattle.std.proofs.lemmas.List.{length-take-le, length-drop, take-append-le, take_more_set, get_or-take}
 use Rattle.isa.specs.declared.fault.Fault.{Fault}
 use Rattle.recovery.specs.declared.Status.TheVariants.{Pending, Done, Faulted}
-use Rattle.recovery.specs.declared.Admitted.TheVariants.{Awaited, Full, Tagged}
+use Rattle.recovery.specs.declared.AdmitError.TheVariants.{Awaited, Full}
 use Rattle.recovery.specs.Meaning.{Entry, Meaning, is_empty, put, place_answer, retire_answer, retire_status, retire_flight, settle, settle_oldest, retire_leaves, has_tag, awaited_destination, held_up, youngest, full, Admits, new_entry, first_status, with_flight, deliver_answer, deliver_leaves, ended, is_pending}
 use Rattle.recovery.specs.declared.slots.Slot.{Slot}
 use Rattle.recovery.specs.Slots.{entry_of, flight_of, status_in}
@@ -137,15 +137,15 @@ module _ (h : HistoryBuffer) where
   longer c d = with_flight (meaning_of h) ((meaning_of h).flight ++ (new_entry (next_tag h) c d ∷ []))
 
   -- an admission to a destination that is not awaited, by whether the flight is full
-  admits : (c : ℕ) (d : Option ℕ) (b : Bool) (n : Meaning) → false ≡ awaited_destination (meaning_of h) d → b ≡ full (meaning_of h) → n ≡ cond b (meaning_of h) (longer c d) → Admits (meaning_of h) c d (cond b Full (Tagged (next_tag h))) n
+  admits : (c : ℕ) (d : Option ℕ) (b : Bool) (n : Meaning) → false ≡ awaited_destination (meaning_of h) d → b ≡ full (meaning_of h) → n ≡ cond b (meaning_of h) (longer c d) → Admits (meaning_of h) c d (cond b (Err Full) (Ok (next_tag h))) n
   admits c d b n k f l = record {
     tag = next_tag h;
     free = λ _. (omega arith, next_free);
-    answer = ap (λ x. cond x Full (Tagged (next_tag h))) f ∙ ap (λ x. cond x Awaited (cond (full (meaning_of h)) Full (Tagged (next_tag h)))) k;
+    answer = ap (λ x. cond x (Err Full) (Ok (next_tag h))) f ∙ ap (λ x. cond x (Err Awaited) (cond (full (meaning_of h)) (Err Full) (Ok (next_tag h)))) k;
     leaves = l ∙ (ap (λ x. cond x (meaning_of h) (longer c d)) f ∙ ap (λ x. cond x (meaning_of h) (cond (full (meaning_of h)) (meaning_of h) (longer c d))) k);
   }
 
-  pub admits_full : (c : ℕ) (d : Option ℕ) → false ≡ awaited_destination (meaning_of h) d → h.capacity ≤ h.count → Admits (meaning_of h) c d Full (meaning_of h)
+  pub admits_full : (c : ℕ) (d : Option ℕ) → false ≡ awaited_destination (meaning_of h) d → h.capacity ≤ h.count → Admits (meaning_of h) c d (Err Full) (meaning_of h)
   admits_full c d k l = admits c d true (meaning_of h) k (sym (le-leb h.capacity (length (meaning_of h).flight) (omega (arith, flown)))) refl
 
   use_more : (x : HistoryRecord) → h.count < h.capacity → take (h.count + 1) (slice_set h.records h.count x) ≡ in_use h ++ (x ∷ [])
@@ -161,7 +161,7 @@ module _ (h : HistoryBuffer) where
   settled_more : (c : ℕ) (d : Option ℕ) → unwind (in_use h ++ (new_record h.file c d ∷ [])) h.file ≡ (meaning_of h).settled
   settled_more c d = unwind_push (new_record h.file c d) (in_use h) h.file ∙ ap (unwind (in_use h)) (undo_new h.file c d)
 
-  pub admits_tagged : (c : ℕ) (d : Option ℕ) (x : HistoryRecord) → false ≡ awaited_destination (meaning_of h) d → x ≡ new_record h.file c d → h.count < h.capacity → Admits (meaning_of h) c d (Tagged (next_tag h)) (meaning_by h.capacity h.first (take (h.count + 1) (slice_set h.records h.count x)) h.file)
+  pub admits_tagged : (c : ℕ) (d : Option ℕ) (x : HistoryRecord) → false ≡ awaited_destination (meaning_of h) d → x ≡ new_record h.file c d → h.count < h.capacity → Admits (meaning_of h) c d (Ok (next_tag h)) (meaning_by h.capacity h.first (take (h.count + 1) (slice_set h.records h.count x)) h.file)
   admits_tagged c d x k e l =
       admits c d false (meaning_by h.capacity h.first (take (h.count + 1) (slice_set h.records h.count x)) h.file) k
       (sym (lt-leb h.capacity (length (meaning_of h).flight) (omega (arith, flown))))

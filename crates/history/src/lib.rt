@@ -18,7 +18,7 @@ use buffer::{HistoryRecord, Progress};
 use isa::fault::Fault;
 use recovery::search::{Naming, youngest};
 use recovery::slots::put_word;
-use recovery::{Admitted, Recovery, Retired, Status, Timing};
+use recovery::{AdmitError, Recovery, Status, Timing, Trap};
 
 impl Naming<u8> for HistoryRecord {
     ghost names = { record_names };
@@ -163,7 +163,7 @@ impl HistoryBuffer {
 impl Recovery for HistoryBuffer {
     const MARK: Timing = Timing::Early;
 
-    ghost timing = { Early };
+    ghost MARK = { Early };
 
     ghost meaning = { meaning_of };
 
@@ -174,10 +174,6 @@ impl Recovery for HistoryBuffer {
     ghost most = { first_of (Prim.search rules, Prim.grind (arith, Self.row.coded.inj)) };
 
     ghost roomy = { λ s. omega (arith, flown s, s.room) };
-
-    fn timing_mark() -> Timing {
-        Self::MARK
-    }
 
     fn fresh() -> HistoryBuffer {
         HistoryBuffer::with_capacity(1)
@@ -199,17 +195,17 @@ impl Recovery for HistoryBuffer {
         true
     }
 
-    fn admit(&mut self, counter: u16, destination: Option<u8>) -> Admitted {
+    fn admit(&mut self, counter: u16, destination: Option<u8>) -> Result<u8, AdmitError> {
         if self.awaits(destination) {
-            return Admitted::Awaited;
+            return Err(AdmitError::Awaited);
         }
         if self.count >= self.capacity as usize {
-            return Admitted::Full;
+            return Err(AdmitError::Full);
         }
         let tag = self.first.wrapping_add(self.count as u8);
         self.records[self.count] = new_record(&self.file, counter, destination);
         self.count += 1;
-        Admitted::Tagged(tag)
+        Ok(tag)
     }
 
     fn deliver(&mut self, tag: u8, outcome: Result<u32, Fault>) -> bool {
@@ -250,17 +246,17 @@ impl Recovery for HistoryBuffer {
         }
     }
 
-    fn retire(&mut self) -> Retired {
+    fn retire(&mut self) -> Result<Option<u16>, Trap> {
         if self.count == 0 {
-            return Retired::Nothing;
+            return Ok(None);
         }
         let head = self.records[0];
         match head.progress {
-            Progress::Waiting => Retired::Nothing,
-            Progress::Failed(fault) => Retired::Faulted(head.counter, fault),
+            Progress::Waiting => Ok(None),
+            Progress::Failed(fault) => Err(Trap { counter: head.counter, fault }),
             Progress::Finished => {
                 self.let_oldest_go();
-                Retired::Settled(head.counter)
+                Ok(Some(head.counter))
             }
         }
     }

@@ -1,5 +1,5 @@
 -- What each step does to the meaning of a reorder buffer.
-use Rattle.std.specs.Prelude.{◌≡◌, ℕ, ◌+◌, ◌-◌, ◌%◌, ◌<◌, ◌≤◌, Bool, true, false, cond, ◌&&◌, ◌⊎◌, List, [], ◌∷◌, ◌++◌, length, get_or, take, drop, Some, None, Option, Result, ◌≢◌, nat_lt, slice_index_or, slice_set, refl}
+use Rattle.std.specs.Prelude.{◌≡◌, ℕ, ◌+◌, ◌-◌, ◌%◌, ◌<◌, ◌≤◌, Bool, true, false, cond, ◌&&◌, ◌⊎◌, List, [], ◌∷◌, ◌++◌, length, get_or, take, drop, Some, None, Ok, Err, Option, Result, ◌≢◌, nat_lt, slice_index_or, slice_set, refl}
 use Rattle.std.proofs.Common.{ap, sym, ◌∙◌, ⊎_elim, arith}
 use Rattle.std.proofs.Math.Seq.{take-set-lt}
 use Rattle.std.proofs.lemmas.Bool.{and_left, and_right, and_parts, le-ltb, lt-ltb, ltb-true, le-leb, lt-leb}
@@ -7,8 +7,7 @@ use Rattle.std.proofs.lemmas.List.{length-take-le, length-drop, take-append-le, 
 use Rattle.isa.specs.declared.fault.Fault.{Fault}
 use Rattle.recovery.specs.declared.Status.{Status}
 use Rattle.recovery.specs.declared.Status.TheVariants.{Pending, Done, Faulted}
-use Rattle.recovery.specs.declared.Admitted.TheVariants.{Awaited, Full, Tagged}
-use Rattle.recovery.specs.declared.Retired.TheVariants.{Settled}
+use Rattle.recovery.specs.declared.AdmitError.TheVariants.{Awaited, Full}
 use Rattle.recovery.specs.declared.slots.Slot.{Slot}
 use Rattle.recovery.specs.Meaning.{Entry, Meaning, is_empty, place_answer, retire_answer, retire_flight, retire_status, retire_leaves, settle_oldest, settle, put, has_tag, awaited_destination, full, Admits, new_entry, first_status, with_flight, waiting, deliver_leaves, ended, is_pending}
 use Rattle.recovery.specs.Slots.{entry_of, flight_of}
@@ -70,7 +69,7 @@ module _ (b : Buffer) where
   )
 
   -- a done one goes: its word to its destination, and its slot behind all others
-  pub retire_done : (w : ℕ) (ws : List ℕ) (ss : List Slot) → (b.count ≢ 0) → head.status ≡ Done w → ws ≡ put b.settled head.destination w → ss ≡ drop 1 b.slots ++ take 1 b.slots → (Settled head.counter ≡ retire_answer (mean b)) × (record { settled = ws; capacity = b.capacity; flight = flight_of ((b.first + 1) % 256) (take (b.count - 1) ss) } ≡ retire_leaves (mean b))
+  pub retire_done : (w : ℕ) (ws : List ℕ) (ss : List Slot) → (b.count ≢ 0) → head.status ≡ Done w → ws ≡ put b.settled head.destination w → ss ≡ drop 1 b.slots ++ take 1 b.slots → (Ok (Some head.counter) ≡ retire_answer (mean b)) × (record { settled = ws; capacity = b.capacity; flight = flight_of ((b.first + 1) % 256) (take (b.count - 1) ss) } ≡ retire_leaves (mean b))
   retire_done w ws ss ne e hw hs =
       let r = retire_as (Done w) ne e in
       let q = ap (take (b.count - 1)) hs ∙ take-append-le (b.count - 1) (drop 1 b.slots) (take 1 b.slots) (omega (arith, length-drop 1 b.slots, b.sizes, b.room)) in (
@@ -86,18 +85,18 @@ module _ (b : Buffer) where
       ∙ fresh b.first used b.tagged (omega (arith, in_use, b.room))
 
   -- an admission goes by whether the destination is awaited and whether the flight is full
-  admits : (c : ℕ) (d : Option ℕ) (a f : Bool) (n : Meaning) → a ≡ awaited_destination (mean b) d → f ≡ full (mean b) → n ≡ cond a (mean b) (cond f (mean b) (with_flight (mean b) ((mean b).flight ++ (new_entry next c d ∷ [])))) → Admits (mean b) c d (cond a Awaited (cond f Full (Tagged next))) n
+  admits : (c : ℕ) (d : Option ℕ) (a f : Bool) (n : Meaning) → a ≡ awaited_destination (mean b) d → f ≡ full (mean b) → n ≡ cond a (mean b) (cond f (mean b) (with_flight (mean b) ((mean b).flight ++ (new_entry next c d ∷ [])))) → Admits (mean b) c d (cond a (Err Awaited) (cond f (Err Full) (Ok next))) n
   admits c d a f n ha hf hn = record {
     tag = next;
     free = λ _. (omega arith, next_fresh);
-    answer = ap (λ x. cond x Awaited (cond f Full (Tagged next))) ha ∙ ap (λ x. cond (awaited_destination (mean b) d) Awaited (cond x Full (Tagged next))) hf;
+    answer = ap (λ x. cond x (Err Awaited) (cond f (Err Full) (Ok next))) ha ∙ ap (λ x. cond (awaited_destination (mean b) d) (Err Awaited) (cond x (Err Full) (Ok next))) hf;
     leaves = hn ∙ (ap (λ x. cond x (mean b) (cond f (mean b) (with_flight (mean b) ((mean b).flight ++ (new_entry next c d ∷ []))))) ha ∙ ap (λ x. cond (awaited_destination (mean b) d) (mean b) (cond x (mean b) (with_flight (mean b) ((mean b).flight ++ (new_entry next c d ∷ []))))) hf);
   }
 
-  pub admits_awaited : (c : ℕ) (d : Option ℕ) → true ≡ awaited_destination (mean b) d → Admits (mean b) c d Awaited (mean b)
+  pub admits_awaited : (c : ℕ) (d : Option ℕ) → true ≡ awaited_destination (mean b) d → Admits (mean b) c d (Err Awaited) (mean b)
   admits_awaited c d h = admits c d true (full (mean b)) (mean b) h refl refl
 
-  pub admits_full : (c : ℕ) (d : Option ℕ) → false ≡ awaited_destination (mean b) d → b.capacity ≤ b.count → Admits (mean b) c d Full (mean b)
+  pub admits_full : (c : ℕ) (d : Option ℕ) → false ≡ awaited_destination (mean b) d → b.capacity ≤ b.count → Admits (mean b) c d (Err Full) (mean b)
   admits_full c d h l = admits c d false true (mean b) h (sym (le-leb b.capacity (length (mean b).flight) (omega (arith, mean_length)))) refl
 
   -- the slot behind those in use is the youngest entry
@@ -107,7 +106,7 @@ module _ (b : Buffer) where
       ∙ (pushed b.first used x b.tagged
       ∙ ap (λ n. (mean b).flight ++ (entry_of ((b.first + n) % 256) x ∷ [])) in_use)
 
-  pub admits_tagged : (c : ℕ) (d : Option ℕ) (s : Status) → false ≡ awaited_destination (mean b) d → s ≡ first_status d → b.count < b.capacity → Admits (mean b) c d (Tagged next) (with_flight (mean b) (flight_of b.first (take (b.count + 1) (slice_set b.slots b.count (record { counter = c; destination = d; status = s })))))
+  pub admits_tagged : (c : ℕ) (d : Option ℕ) (s : Status) → false ≡ awaited_destination (mean b) d → s ≡ first_status d → b.count < b.capacity → Admits (mean b) c d (Ok next) (with_flight (mean b) (flight_of b.first (take (b.count + 1) (slice_set b.slots b.count (record { counter = c; destination = d; status = s })))))
   admits_tagged c d s h e l =
       admits c d false false (with_flight (mean b) (flight_of b.first (take (b.count + 1) (slice_set b.slots b.count (record { counter = c; destination = d; status = s }))))) h (sym (lt-leb b.capacity (length (mean b).flight) (omega (arith, mean_length))))
       (ap (with_flight (mean b)) (longer (record { counter = c; destination = d; status = s }) l

@@ -11,7 +11,7 @@ pub mod buffer;
 
 use buffer::Buffer;
 use isa::fault::Fault;
-use recovery::{Admitted, Recovery, Retired, Timing};
+use recovery::{AdmitError, Recovery, Timing, Trap};
 
 // A reorder buffer: a source is read from the settled registers, once no entry names it.
 #[derive(Drop)]
@@ -28,7 +28,7 @@ pub struct BypassBuffer {
 impl Recovery for ReorderBuffer {
     const MARK: Timing = Timing::Late;
 
-    ghost timing = { Late };
+    ghost MARK = { Late };
 
     ghost meaning = { λ s. mean s.buffer };
 
@@ -39,10 +39,6 @@ impl Recovery for ReorderBuffer {
     ghost most = { Prim.search rules };
 
     ghost roomy = { λ s. omega (arith, mean_length s.buffer) };
-
-    fn timing_mark() -> Timing {
-        Self::MARK
-    }
 
     fn fresh() -> ReorderBuffer {
         ReorderBuffer {
@@ -58,7 +54,7 @@ impl Recovery for ReorderBuffer {
         self.buffer.place(register, word)
     }
 
-    fn admit(&mut self, counter: u16, destination: Option<u8>) -> Admitted {
+    fn admit(&mut self, counter: u16, destination: Option<u8>) -> Result<u8, AdmitError> {
         self.buffer.admit(counter, destination)
     }
 
@@ -74,7 +70,7 @@ impl Recovery for ReorderBuffer {
         self.buffer.oldest()
     }
 
-    fn retire(&mut self) -> Retired {
+    fn retire(&mut self) -> Result<Option<u16>, Trap> {
         self.buffer.retire()
     }
 
@@ -86,7 +82,7 @@ impl Recovery for ReorderBuffer {
 impl Recovery for BypassBuffer {
     const MARK: Timing = Timing::Early;
 
-    ghost timing = { Early };
+    ghost MARK = { Early };
 
     ghost meaning = { λ s. mean s.buffer };
 
@@ -97,10 +93,6 @@ impl Recovery for BypassBuffer {
     ghost most = { Prim.search rules };
 
     ghost roomy = { λ s. omega (arith, mean_length s.buffer) };
-
-    fn timing_mark() -> Timing {
-        Self::MARK
-    }
 
     fn fresh() -> BypassBuffer {
         BypassBuffer {
@@ -116,7 +108,7 @@ impl Recovery for BypassBuffer {
         self.buffer.place(register, word)
     }
 
-    fn admit(&mut self, counter: u16, destination: Option<u8>) -> Admitted {
+    fn admit(&mut self, counter: u16, destination: Option<u8>) -> Result<u8, AdmitError> {
         self.buffer.admit(counter, destination)
     }
 
@@ -132,7 +124,7 @@ impl Recovery for BypassBuffer {
         self.buffer.oldest()
     }
 
-    fn retire(&mut self) -> Retired {
+    fn retire(&mut self) -> Result<Option<u16>, Trap> {
         self.buffer.retire()
     }
 

@@ -6,8 +6,8 @@ ghost use Rattle.reorder.specs.Mean.{mean, newest_status, readable_word, taker_a
 use super::Buffer;
 use isa::fault::Fault;
 use recovery::search::youngest;
-use recovery::slots::{Slot, put_word, status_at_first, status_by};
-use recovery::{Admitted, Retired, Status, Timing};
+use recovery::slots::{Slot, put_word, status_at_first};
+use recovery::{AdmitError, Status, Timing, Trap};
 
 // What a slot holds that was never used.
 const UNUSED: Slot = Slot {
@@ -116,14 +116,14 @@ impl Buffer {
     }
 
     // Appends an entry, unless its destination is awaited or the flight is full.
-    pub fn admit(&mut self, counter: u16, destination: Option<u8>) -> Admitted
+    pub fn admit(&mut self, counter: u16, destination: Option<u8>) -> Result<u8, AdmitError>
         ensures { Admits (mean self.old) counter destination result (mean self.new) }
     {
         if self.awaits_destination(destination) {
-            return Admitted::Awaited;
+            return Err(AdmitError::Awaited);
         }
         if self.count >= self.capacity as usize {
-            return Admitted::Full;
+            return Err(AdmitError::Full);
         }
         let tag = self.first.wrapping_add(self.count as u8);
         let status = status_at_first(destination);
@@ -133,7 +133,7 @@ impl Buffer {
             status,
         };
         self.count += 1;
-        Admitted::Tagged(tag)
+        Ok(tag)
     }
 
     // Where the pending entry of a tag stands, if any.
@@ -167,7 +167,7 @@ impl Buffer {
     {
         match self.taker_at(tag) {
             Some(i) => {
-                self.slots[i].status = status_by(outcome);
+                self.slots[i].status = Status::from(outcome);
                 true
             }
             None => false,
@@ -199,23 +199,23 @@ impl Buffer {
     }
 
     // Settles the oldest entry where it is done; a faulted one is answered and stays.
-    pub fn retire(&mut self) -> Retired
+    pub fn retire(&mut self) -> Result<Option<u16>, Trap>
         ensures answer { result ≡ retire_answer (mean self.old) }
         ensures leaves { mean self.new ≡ retire_leaves (mean self.old) }
     {
         if self.count == 0 {
-            return Retired::Nothing;
+            return Ok(None);
         }
         let head = self.slots[0];
         match head.status {
-            Status::Pending => Retired::Nothing,
-            Status::Faulted(fault) => Retired::Faulted(head.counter, fault),
+            Status::Pending => Ok(None),
+            Status::Faulted(fault) => Err(Trap { counter: head.counter, fault }),
             Status::Done(word) => {
                 put_word(&mut self.settled, head.destination, word);
                 self.slots.rotate_left(1);
                 self.count -= 1;
                 self.first = self.first.wrapping_add(1);
-                Retired::Settled(head.counter)
+                Ok(Some(head.counter))
             }
         }
     }
