@@ -28,10 +28,8 @@ pub struct FutureFile {
 fn write_result(file: &mut [u32; 16], taker: Option<Slot>, outcome: Result<u32, Fault>)
     ensures { file.new ≡ written file.old taker outcome }
 {
-    if let Some(slot) = taker {
-        if let Ok(word) = outcome {
-            put_word(file, slot.destination, word);
-        }
+    if let (Some(slot), Ok(word)) = (taker, outcome) {
+        put_word(file, slot.destination, word);
     }
 }
 
@@ -48,7 +46,7 @@ impl Recovery for FutureFile {
 
     ghost most = { first_of (Prim.search rules, Prim.grind (arith, Self.row.coded.inj)) };
 
-    ghost roomy = { λ s. omega (arith, mean_length s.buffer) };
+    ghost roomy = { λ s. omega (arith, mean_length s.buffer, s.buffer.room) };
 
     fn fresh() -> FutureFile {
         FutureFile {

@@ -12,77 +12,50 @@ pub mod buffer;
 use buffer::Buffer;
 use isa::fault::Fault;
 use recovery::{AdmitError, Recovery, Timing, Trap};
+use std::marker::PhantomData;
 
-// A reorder buffer: a source is read from the settled registers, once no entry names it.
-#[derive(Drop)]
-pub struct ReorderBuffer {
-    buffer: Buffer,
+// When a source may be read, as a type.
+pub trait Reading {
+    const MARK: Timing;
+
+    ghost MARK: { Timing };
 }
 
-// A reorder buffer with bypasses: a source is read from the youngest entry that names it, once that is done.
-#[derive(Drop)]
-pub struct BypassBuffer {
-    buffer: Buffer,
-}
+// A source is read from the settled registers, once no entry names it.
+pub struct Settled;
 
-impl Recovery for ReorderBuffer {
+impl Reading for Settled {
     const MARK: Timing = Timing::Late;
 
     ghost MARK = { Late };
-
-    ghost meaning = { λ s. mean s.buffer };
-
-    ghost sixteen = { Prim.search rules };
-
-    ghost some = { Prim.search rules };
-
-    ghost most = { Prim.search rules };
-
-    ghost roomy = { λ s. omega (arith, mean_length s.buffer) };
-
-    fn fresh() -> ReorderBuffer {
-        ReorderBuffer {
-            buffer: Buffer::new(),
-        }
-    }
-
-    fn start(&mut self, capacity: u32) -> bool {
-        self.buffer.start(capacity)
-    }
-
-    fn place(&mut self, register: u8, word: u32) -> bool {
-        self.buffer.place(register, word)
-    }
-
-    fn admit(&mut self, counter: u16, destination: Option<u8>) -> Result<u8, AdmitError> {
-        self.buffer.admit(counter, destination)
-    }
-
-    fn deliver(&mut self, tag: u8, outcome: Result<u32, Fault>) -> bool {
-        self.buffer.deliver(tag, outcome)
-    }
-
-    fn look(&self, register: u8) -> Option<u32> {
-        self.buffer.look(Self::MARK, register)
-    }
-
-    fn oldest(&self) -> Option<u16> {
-        self.buffer.oldest()
-    }
-
-    fn retire(&mut self) -> Result<Option<u16>, Trap> {
-        self.buffer.retire()
-    }
-
-    fn back_out(&mut self) {
-        self.buffer.back_out();
-    }
 }
 
-impl Recovery for BypassBuffer {
+// A source is read from the youngest entry that names it, once that is done: past the settled registers.
+pub struct Bypassed;
+
+impl Reading for Bypassed {
     const MARK: Timing = Timing::Early;
 
     ghost MARK = { Early };
+}
+
+// A reorder buffer, from which sources are read as R says.
+#[derive(Drop)]
+pub struct Reordering<R> {
+    buffer: Buffer,
+    reading: PhantomData<R>,
+}
+
+// A reorder buffer without bypasses.
+pub type ReorderBuffer = Reordering<Settled>;
+
+// A reorder buffer with bypasses.
+pub type BypassBuffer = Reordering<Bypassed>;
+
+impl<R: Reading> Recovery for Reordering<R> {
+    const MARK: Timing = R::MARK;
+
+    ghost MARK = { R.MARK };
 
     ghost meaning = { λ s. mean s.buffer };
 
@@ -92,11 +65,12 @@ impl Recovery for BypassBuffer {
 
     ghost most = { Prim.search rules };
 
-    ghost roomy = { λ s. omega (arith, mean_length s.buffer) };
+    ghost roomy = { λ s. omega (arith, mean_length s.buffer, s.buffer.room) };
 
-    fn fresh() -> BypassBuffer {
-        BypassBuffer {
+    fn fresh() -> Self {
+        Reordering {
             buffer: Buffer::new(),
+            reading: PhantomData,
         }
     }
 
@@ -117,7 +91,7 @@ impl Recovery for BypassBuffer {
     }
 
     fn look(&self, register: u8) -> Option<u32> {
-        self.buffer.look(Self::MARK, register)
+        self.buffer.look(R::MARK, register)
     }
 
     fn oldest(&self) -> Option<u16> {
