@@ -75,7 +75,7 @@ module _ (b : Buffer) where
   delivered_word u r None l h g = ap newest_of (delivers_none b u r l h).1
   delivered_word u r (Some i) l h g =
       let f = taken b u i l h in
-      let d = hit b.first u i (ended r) b.places.items b.tagged f.0 (omega (arith, b.room)) f.1 f.2 in
+      let d = hit b.first u i (ended r) b.places.items b.tagged f.0 (omega (arith, b.most, b.room)) f.1 f.2 in
       ap (λ s. written (newest_of (mean b)) s r) (slice_get-get_or b.places.items i d0 f.0) ∙ (turn i b.first r b.places.items b.settled f.0 f.2 g ∙ ap (current b.settled) (sym d.1))
 
   pub follows_deliver : (ws vs : List ℕ) (n : Meaning) (u : ℕ) (r : Result ℕ Fault) → u < 256 → vs ≡ written ws (taken_slot b u) r → n ≡ deliver_leaves (mean b) u r → Follows ws (mean b) → Follows vs n

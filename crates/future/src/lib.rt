@@ -6,7 +6,7 @@ ghost use Rattle.recovery.specs.declared.Timing.{Timing};
 ghost use Rattle.recovery.specs.declared.Timing.TheVariants.{Early};
 ghost use Rattle.reorder.specs.Mean.{mean};
 ghost use Rattle.future.specs.Current.{Follows, written};
-ghost use Rattle.std.proofs.Common.{arith, rules};
+ghost use Rattle.std.proofs.Common.{arith};
 ghost use Rattle.reorder.specs.Steps.{mean_length};
 
 use isa::fault::Fault;
@@ -40,11 +40,11 @@ impl Recovery for FutureFile {
 
     ghost meaning = { λ s. mean s.buffer };
 
-    ghost sixteen = { first_of (Prim.search rules, Prim.grind (arith, Self.row.coded.inj)) };
+    ghost sixteen = { λ s. s.buffer.sixteen };
 
-    ghost some = { first_of (Prim.search rules, Prim.grind (arith, Self.row.coded.inj)) };
+    ghost some = { λ s. s.buffer.some };
 
-    ghost most = { first_of (Prim.search rules, Prim.grind (arith, Self.row.coded.inj)) };
+    ghost most = { λ s. s.buffer.most };
 
     ghost roomy = { λ s. omega (arith, mean_length s.buffer, s.buffer.room) };
 

@@ -65,7 +65,7 @@ module _ (b : Buffer) where
   next = (b.first + length b.places.items) % 256
 
   next_fresh : has_tag next (mean b).flight ≡ false
-  next_fresh = fresh b.first b.places.items b.tagged (omega (arith, b.room))
+  next_fresh = fresh b.first b.places.items b.tagged (omega (arith, b.most, b.room))
 
   -- an admission whose destination is not awaited goes by whether the flight is full
   admits : (c : ℕ) (d : Option ℕ) (f : Bool) (n : Meaning) → false ≡ awaited_destination (mean b) d → f ≡ full (mean b) → n ≡ cond f (mean b) (with_flight (mean b) ((mean b).flight ++ (new_entry next c d ∷ []))) → Admits (mean b) c d (cond f (Err Full) (Ok next)) n
@@ -104,7 +104,7 @@ module _ (b : Buffer) where
       let t : b.first < 256 = b.tagged in
       let no = none_cond (waits (slice_get b.places.items (distance b u))) (distance b u) h in
       let k = idle b.first u (ended r) b.places.items t (λ j q e.
-      let at : j ≡ distance b u = omega (arith, b.room) in
+      let at : j ≡ distance b u = omega (arith, b.most, b.room) in
       sym (waits_at b.places.items j q) ∙ (ap (λ n. waits (slice_get b.places.items n)) at ∙ no)) in
       (sym k.0, ap (with_flight (mean b)) (sym k.1))
 
@@ -112,7 +112,7 @@ module _ (b : Buffer) where
   pub delivers : (u i : ℕ) (r : Result ℕ Fault) (s : Slot) (ss : List Slot) → u < 256 → Some i ≡ taker_at b u → s ≡ get_or b.places.items i s → ss ≡ slice_set b.places.items i (record { counter = s.counter; destination = s.destination; status = ended r }) → (true ≡ waiting u (mean b).flight) × (with_flight (mean b) (flight_of b.first ss) ≡ deliver_leaves (mean b) u r)
   delivers u i r s ss l h e q =
       let f = taken u i l h in
-      let k = hit b.first u i (ended r) b.places.items b.tagged f.0 (omega (arith, b.room)) f.1 f.2 in
+      let k = hit b.first u i (ended r) b.places.items b.tagged f.0 (omega (arith, b.most, b.room)) f.1 f.2 in
       let p = get_or_read b.places.items i s f.0 e d0 in (
         sym k.0,
         ap (λ vs. with_flight (mean b) (flight_of b.first vs)) q

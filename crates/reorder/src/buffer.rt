@@ -15,6 +15,8 @@ pub struct Buffer {
     first: u8,
     places: ArrayVec<Place, 16>,
     ghost sixteen: { length settled ≡ 16 },
-    ghost room: { (1 ≤ capacity) × (capacity ≤ 16) × (length places.items ≤ capacity) },
+    ghost some: { 1 ≤ capacity },
+    ghost most: { capacity ≤ 16 },
+    ghost room: { length places.items ≤ capacity },
     ghost tagged: { first < 256 },
 }

@@ -4,7 +4,7 @@
 ghost use Rattle.recovery.specs.declared.Timing.{Timing};
 ghost use Rattle.recovery.specs.declared.Timing.TheVariants.{Early, Late};
 ghost use Rattle.reorder.specs.Mean.{mean};
-ghost use Rattle.std.proofs.Common.{arith, rules};
+ghost use Rattle.std.proofs.Common.{arith};
 ghost use Rattle.reorder.specs.Steps.{mean_length};
 
 pub mod buffer;
@@ -59,11 +59,11 @@ impl<R: Reading> Recovery for Reordering<R> {
 
     ghost meaning = { λ s. mean s.buffer };
 
-    ghost sixteen = { Prim.search rules };
+    ghost sixteen = { λ s. s.buffer.sixteen };
 
-    ghost some = { Prim.search rules };
+    ghost some = { λ s. s.buffer.some };
 
-    ghost most = { Prim.search rules };
+    ghost most = { λ s. s.buffer.most };
 
     ghost roomy = { λ s. omega (arith, mean_length s.buffer, s.buffer.room) };
 
