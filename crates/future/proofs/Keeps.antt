@@ -1,7 +1,7 @@
 -- Each step keeps the newest file right.
-use Rattle.std.proofs.Common.{◌≡◌, ℕ, zero, suc, ◌+◌, ◌%◌, ◌<◌, Bool, true, false, cond, ltb, List, [], ◌∷◌, ◌++◌, length, get_or, set, Some, None, Ok, Err, Option, Result, sym, refl, ap, ◌∙◌, arith}
+use Rattle.std.proofs.Common.{◌≡◌, ℕ, zero, suc, ◌+◌, ◌%◌, ◌<◌, Bool, true, false, cond, ltb, List, [], ◌∷◌, ◌++◌, length, get_or, set, option_and_then, slice_get, Some, None, Ok, Err, Option, Result, sym, refl, ap, ◌∙◌, arith}
 use Rattle.std.proofs.lemmas.Bool.{ltb-true, and_parts, and_from}
-use Rattle.std.proofs.lemmas.List.{get_or-take}
+use Rattle.std.proofs.lemmas.Option.{slice_get-get_or}
 use Rattle.isa.specs.declared.fault.Fault.{Fault}
 use Rattle.recovery.specs.declared.Status.{Status}
 use Rattle.recovery.specs.declared.Status.TheVariants.{Pending}
@@ -11,8 +11,8 @@ use Rattle.recovery.specs.Meaning.{Entry, Meaning, youngest, held_up, awaited, a
 use Rattle.recovery.specs.Slots.{flight_of}
 use Rattle.recovery.proofs.Flights.{d0, hit}
 use Rattle.reorder.specs.declared.buffer.Buffer.{Buffer}
-use Rattle.reorder.specs.Mean.{mean, taker_at, slot_at, taken_slot}
-use Rattle.reorder.specs.Steps.{used, in_use, taken, delivers_none}
+use Rattle.reorder.specs.Mean.{mean, taker_at, taken_slot}
+use Rattle.reorder.specs.Steps.{taken, delivers_none}
 use Rattle.future.specs.Current.{put_done, current, clear, guarded, Follows, written}
 use Rattle.future.proofs.Words.{current_set, current_new, current_read}
 use Rattle.future.proofs.Guards.{clear_parts, guarded_push, guarded_delivered}
@@ -71,18 +71,12 @@ turn (suc i) t r (s ∷ ss) ws l p g =
     (and_parts (clear s.status s.destination (flight_of ((t + 1) % 256) ss)) (guarded (flight_of ((t + 1) % 256) ss)) g).1
 
 module _ (b : Buffer) where
-  delivered_word : (u : ℕ) (r : Result ℕ Fault) (o : Option ℕ) → u < 256 → o ≡ taker_at b u → guarded (mean b).flight ≡ true → written (newest_of (mean b)) (slot_at b.slots o) r ≡ newest_of (deliver_leaves (mean b) u r)
+  delivered_word : (u : ℕ) (r : Result ℕ Fault) (o : Option ℕ) → u < 256 → o ≡ taker_at b u → guarded (mean b).flight ≡ true → written (newest_of (mean b)) (option_and_then (slice_get b.places.items) o) r ≡ newest_of (deliver_leaves (mean b) u r)
   delivered_word u r None l h g = ap newest_of (delivers_none b u r l h).1
   delivered_word u r (Some i) l h g =
       let f = taken b u i l h in
-      let lt = f.0 in
-      let at : (b.first + i) % 256 ≡ u = f.1 in
-      let e = get_or-take b.count b.slots i d0 lt in
-      let p : (get_or (used b) i d0).status ≡ Pending = ap (λ x. x.status) e ∙ f.2 in
-      let k : i < length (used b) = omega (arith, in_use b) in
-      let d = hit b.first u i (ended r) (used b) b.tagged k (omega (arith, in_use b, b.room)) at p in
-      ap (λ x. put_done (newest_of (mean b)) x.destination (ended r)) (sym e)
-      ∙ (turn i b.first r (used b) b.settled k p g ∙ ap (current b.settled) (sym d.1))
+      let d = hit b.first u i (ended r) b.places.items b.tagged f.0 (omega (arith, b.most, b.room)) f.1 f.2 in
+      ap (λ s. written (newest_of (mean b)) s r) (slice_get-get_or b.places.items i d0 f.0) ∙ (turn i b.first r b.places.items b.settled f.0 f.2 g ∙ ap (current b.settled) (sym d.1))
 
   pub follows_deliver : (ws vs : List ℕ) (n : Meaning) (u : ℕ) (r : Result ℕ Fault) → u < 256 → vs ≡ written ws (taken_slot b u) r → n ≡ deliver_leaves (mean b) u r → Follows ws (mean b) → Follows vs n
   follows_deliver ws vs n u r l e q f =

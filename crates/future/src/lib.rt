@@ -6,12 +6,12 @@ ghost use Rattle.recovery.specs.declared.Timing.{Timing};
 ghost use Rattle.recovery.specs.declared.Timing.TheVariants.{Early};
 ghost use Rattle.reorder.specs.Mean.{mean};
 ghost use Rattle.future.specs.Current.{Follows, written};
-ghost use Rattle.std.proofs.Common.{arith, rules};
+ghost use Rattle.std.proofs.Common.{arith};
 ghost use Rattle.reorder.specs.Steps.{mean_length};
 
 use isa::fault::Fault;
 use recovery::slots::{Slot, put_word};
-use recovery::{Admitted, Recovery, Retired, Timing};
+use recovery::{AdmitError, Recovery, Timing, Trap};
 use reorder::buffer::Buffer;
 
 // Sources are read from the newest file, which takes each word as it is delivered. The buffer settles the same words
@@ -28,31 +28,25 @@ pub struct FutureFile {
 fn write_result(file: &mut [u32; 16], taker: Option<Slot>, outcome: Result<u32, Fault>)
     ensures { file.new ≡ written file.old taker outcome }
 {
-    if let Some(slot) = taker {
-        if let Ok(word) = outcome {
-            put_word(file, slot.destination, word);
-        }
+    if let (Some(slot), Ok(word)) = (taker, outcome) {
+        put_word(file, slot.destination, word);
     }
 }
 
 impl Recovery for FutureFile {
     const MARK: Timing = Timing::Early;
 
-    ghost timing = { Early };
+    ghost MARK = { Early };
 
     ghost meaning = { λ s. mean s.buffer };
 
-    ghost sixteen = { first_of (Prim.search rules, Prim.grind (arith, Self.row.coded.inj)) };
+    ghost sixteen = { λ s. s.buffer.sixteen };
 
-    ghost some = { first_of (Prim.search rules, Prim.grind (arith, Self.row.coded.inj)) };
+    ghost some = { λ s. s.buffer.some };
 
-    ghost most = { first_of (Prim.search rules, Prim.grind (arith, Self.row.coded.inj)) };
+    ghost most = { λ s. s.buffer.most };
 
-    ghost roomy = { λ s. omega (arith, mean_length s.buffer) };
-
-    fn timing_mark() -> Timing {
-        Self::MARK
-    }
+    ghost roomy = { λ s. omega (arith, mean_length s.buffer, s.buffer.room) };
 
     fn fresh() -> FutureFile {
         FutureFile {
@@ -77,7 +71,7 @@ impl Recovery for FutureFile {
         true
     }
 
-    fn admit(&mut self, counter: u16, destination: Option<u8>) -> Admitted {
+    fn admit(&mut self, counter: u16, destination: Option<u8>) -> Result<u8, AdmitError> {
         self.buffer.admit(counter, destination)
     }
 
@@ -98,7 +92,7 @@ impl Recovery for FutureFile {
         self.buffer.oldest()
     }
 
-    fn retire(&mut self) -> Retired {
+    fn retire(&mut self) -> Result<Option<u16>, Trap> {
         self.buffer.retire()
     }
 

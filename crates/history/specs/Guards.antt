@@ -9,8 +9,8 @@ use Rattle.recovery.specs.Search.{or_else}
 use Rattle.history.specs.declared.buffer.HistoryRecord.{HistoryRecord}
 use Rattle.history.specs.declared.buffer.Progress.{Progress}
 use Rattle.history.specs.declared.buffer.Progress.TheVariants.{Waiting, Finished, Failed}
-use Rattle.history.specs.Unwind.{undo, unwind, word_at, status_of, slot_of, slots_of, named, clear, guarded}
-use Rattle.history.specs.Unwinding.{unused, unwind_set, slots_set, length_unwind, newest_progress}
+use Rattle.history.specs.Unwind.{undo, unwind, word_at, status_of, slot_of, slots_of, named, clear, guarded, newest_progress}
+use Rattle.history.specs.Unwinding.{unused, unwind_set, slots_set, length_unwind}
 
 -- a record that has made progress
 abbrev pub moved_to : HistoryRecord → Progress → HistoryRecord

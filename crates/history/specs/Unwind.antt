@@ -1,8 +1,9 @@
 -- What history records mean: the file with old words put back, youngest first.
-use Rattle.std.specs.Prelude.{ℕ, Bool, true, false, not, ◌&&◌, ◌||◌, List, [], ◌∷◌, Some, None, Ok, Err, Option, Result, nat_lt, slice_index}
+use Rattle.std.specs.Prelude.{ℕ, Bool, true, false, cond, not, ◌&&◌, ◌||◌, List, [], ◌∷◌, Some, None, Ok, Err, Option, Result, nat_lt, slice_index}
 use Rattle.isa.specs.declared.fault.Fault.{Fault}
 use Rattle.recovery.specs.declared.Status.{Status}
 use Rattle.recovery.specs.declared.Status.TheVariants.{Pending, Done, Faulted}
+use Rattle.recovery.specs.Search.{or_else}
 use Rattle.recovery.specs.Meaning.{is_register, put}
 use Rattle.recovery.specs.declared.slots.Slot.{Slot}
 use Rattle.history.specs.declared.buffer.HistoryRecord.{HistoryRecord}
@@ -12,6 +13,11 @@ use Rattle.history.specs.declared.buffer.Progress.TheVariants.{Waiting, Finished
 -- whether a record names a register
 abbrev pub record_names : HistoryRecord → ℕ → Bool
 record_names x r = is_register x.destination r
+
+-- the progress of the youngest record that names a register
+abbrev pub newest_progress : ℕ → List HistoryRecord → Option Progress
+newest_progress r [] = None
+newest_progress r (x ∷ xs) = or_else (newest_progress r xs) (cond (record_names x r) (Some x.progress) None)
 
 -- the file once a record's old word is put back
 abbrev pub undo : HistoryRecord → List ℕ → List ℕ

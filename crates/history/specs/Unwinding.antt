@@ -1,18 +1,19 @@
 -- Unwinding, record by record, and the search over the records.
-use Rattle.std.specs.Prelude.{◌≡◌, ℕ, suc, ◌+◌, ◌-◌, ◌%◌, ◌<◌, Bool, true, false, cond, ◌||◌, ◌≢◌, List, [], ◌∷◌, ◌++◌, length, take, Some, None, Option, ◌==◌, slice_index, slice_index_or, slice_set, refl}
+use Rattle.std.specs.Prelude.{◌≡◌, ℕ, suc, ◌+◌, ◌%◌, ◌<◌, Bool, true, false, cond, ◌||◌, ◌≢◌, List, [], ◌∷◌, ◌++◌, length, Some, None, Option, ◌==◌, slice_index, slice_index_or, slice_set, refl}
 use Rattle.std.proofs.Common.{ap, sym, ◌∙◌, ⊎_elim, arith, add-one}
 use Rattle.std.proofs.lemmas.Bool.{eqb-false, eqb-true, or_parts, cases_Bool}
-use Rattle.std.proofs.lemmas.List.{length-take, get_or-take, length-set, set-set, set_comm, set-get_or, get_or-set_other}
+use Rattle.std.proofs.lemmas.List.{length-set, set-set, set_comm, set-get_or, get_or-set_other}
 use Rattle.recovery.specs.declared.Status.{Status}
-use Rattle.recovery.specs.Meaning.{is_register, put, youngest}
+use Rattle.recovery.specs.declared.Status.TheVariants.{Pending, Done, Faulted}
+use Rattle.recovery.specs.Meaning.{Entry, is_register, put, youngest, held_up, unready, word_in, word_of}
 use Rattle.recovery.specs.Search.{or_else, last_index, behind}
 use Rattle.recovery.specs.Slots.{entry_of, flight_of}
 use Rattle.recovery.specs.Slots.{status_in}
 use Rattle.recovery.proofs.Flights.{in_or, within}
 use Rattle.history.specs.declared.buffer.HistoryRecord.{HistoryRecord}
 use Rattle.history.specs.declared.buffer.Progress.{Progress}
-use Rattle.history.specs.declared.buffer.Progress.TheVariants.{Waiting}
-use Rattle.history.specs.Unwind.{record_names, undo, unwind, word_at, status_of, slot_of, slots_of, named, new_record}
+use Rattle.history.specs.declared.buffer.Progress.TheVariants.{Waiting, Finished, Failed}
+use Rattle.history.specs.Unwind.{record_names, undo, unwind, word_at, status_of, slot_of, slots_of, named, new_record, newest_progress}
 
 -- what an array's read takes past its end
 abbrev pub unused : HistoryRecord
@@ -91,18 +92,23 @@ abbrev pub progress_at : List HistoryRecord → Option ℕ → Option Progress
 progress_at xs None = None
 progress_at xs (Some i) = Some (slice_index_or xs i unused).progress
 
-abbrev pub newest_progress : ℕ → List HistoryRecord → Option Progress
-newest_progress r [] = None
-newest_progress r (x ∷ xs) = or_else (newest_progress r xs) (cond (is_register x.destination r) (Some x.progress) None)
-
 at_behind : (x : HistoryRecord) (xs : List HistoryRecord) (o : Option ℕ) (b : Bool) → progress_at (x ∷ xs) (behind o b) ≡ or_else (progress_at xs o) (cond b (Some x.progress) None)
 at_behind x xs (Some i) b = rw add-one
 at_behind x xs None true = refl
 at_behind x xs None false = refl
 
-pub found_progress : (r : ℕ) (xs : List HistoryRecord) → progress_at xs (last_index (λ x. record_names x r) xs) ≡ newest_progress r xs
+found_progress : (r : ℕ) (xs : List HistoryRecord) → progress_at xs (last_index (λ x. record_names x r) xs) ≡ newest_progress r xs
 found_progress r [] = refl
 found_progress r (x ∷ xs) = at_behind x xs (last_index (λ y. record_names y r) xs) (record_names x r) ∙ ap (λ o. or_else o (cond (record_names x r) (Some x.progress) None)) (found_progress r xs)
+
+pub newest_within : (r i : ℕ) (xs : List HistoryRecord) → Some i ≡ last_index (λ x. record_names x r) xs → i < length xs
+newest_within r i xs h = within (λ x. record_names x r) xs i (sym h)
+
+pub newest_some : (r i : ℕ) (xs : List HistoryRecord) → Some i ≡ last_index (λ x. record_names x r) xs → Some (slice_index_or xs i unused).progress ≡ newest_progress r xs
+newest_some r i xs h = ap (progress_at xs) h ∙ found_progress r xs
+
+pub newest_none : (r : ℕ) (xs : List HistoryRecord) → None ≡ last_index (λ x. record_names x r) xs → None ≡ newest_progress r xs
+newest_none r xs h = ap (progress_at xs) h ∙ found_progress r xs
 
 or_none : (o : Option Progress) (b : Bool) (s : Progress) → or_else o (cond b (Some s) None) ≡ None → (b ≡ false) × (o ≡ None)
 or_none (Some y) b s h = let z : ◌≡◌ {A = ℕ} 0 1 = cc in absurd (omega arith)
@@ -135,31 +141,37 @@ newest_is t r (x ∷ xs) ws =
     ∙ (ap (λ o. or_else o (cond (is_register x.destination r) (Some (status_of x.progress (word_at (unwind xs ws) x.destination))) None)) (newest_is ((t + 1) % 256) r xs ws)
     ∙ join (newest_progress r xs) x.destination x.progress (unwind xs ws) r (slice_index ws r) (λ n. unwind_get r xs ws (none_named r xs n)))
 
-seen_none : (o : Option Progress) (w : ℕ) → None ≡ seen o w → o ≡ None
-seen_none None w h = refl
-seen_none (Some s) w h = let z : ◌≡◌ {A = ℕ} 0 1 = cc in absurd (omega arith)
+-- whether a record's progress holds its register up
+abbrev pub unfinished : Option Progress → Bool
+unfinished None = false
+unfinished (Some Waiting) = true
+unfinished (Some Finished) = false
+unfinished (Some (Failed f)) = true
 
--- what the search over the records in use tells
-module _ (t n r : ℕ) (xs : List HistoryRecord) (ws : List ℕ) where
-  pub newest_within : (i : ℕ) → Some i ≡ last_index (λ x. record_names x r) (take (n - 0) xs) → i < n
-  newest_within i h =
-      let w = within (λ x. record_names x r) (take (n - 0) xs) i (sym h) in
-      omega (arith, length-take (n - 0) xs)
+held_seen : (o : Option Entry) (n : Option Progress) (w : ℕ) → status_in o ≡ seen n w → held_up o ≡ unfinished n
+held_seen None None w h = refl
+held_seen None (Some p) w h = let z : ◌≡◌ {A = ℕ} 0 1 = cc in absurd (omega arith)
+held_seen (Some e) None w h = let z : ◌≡◌ {A = ℕ} 0 1 = cc in absurd (omega arith)
+held_seen (Some e) (Some Waiting) w h = let q : e.status ≡ Pending = cc in ap unready q
+held_seen (Some e) (Some Finished) w h = let q : e.status ≡ Done w = cc in ap unready q
+held_seen (Some e) (Some (Failed f)) w h = let q : e.status ≡ Faulted f = cc in ap unready q
 
-  pub newest_some : (i : ℕ) (s : Progress) → Some i ≡ last_index (λ x. record_names x r) (take (n - 0) xs) → (slice_index_or xs i unused).progress ≡ s → Some (status_of s (slice_index ws r)) ≡ status_in (youngest r (flight_of t (slots_of (take n xs) ws)))
-  newest_some i s h q =
-      let e : n - 0 ≡ n = omega arith in
-      let l = newest_within i h in
-      let f = found_progress r (take n xs) in
-      let g = rw e at h in
-      sym (newest_is t r (take n xs) ws ∙ (ap (λ o. seen o (slice_index ws r)) (sym f ∙ ap (progress_at (take n xs)) (sym g)) ∙ ap (λ k. Some (status_of k (slice_index ws r))) (ap (λ x. x.progress) (get_or-take n xs i unused l) ∙ q)))
+word_seen : (o : Option Entry) (n : Option Progress) (v w : ℕ) → status_in o ≡ seen n w → unfinished n ≡ false → (n ≡ None → v ≡ w) → word_in o v ≡ w
+word_seen None None v w h u k = k refl
+word_seen None (Some p) v w h u k = let z : ◌≡◌ {A = ℕ} 0 1 = cc in absurd (omega arith)
+word_seen (Some e) None v w h u k = let z : ◌≡◌ {A = ℕ} 0 1 = cc in absurd (omega arith)
+word_seen (Some e) (Some Waiting) v w h u k = let z : ◌≡◌ {A = ℕ} 0 1 = cc in absurd (omega arith)
+word_seen (Some e) (Some Finished) v w h u k = let q : e.status ≡ Done w = cc in ap word_of q
+word_seen (Some e) (Some (Failed f)) v w h u k = let z : ◌≡◌ {A = ℕ} 0 1 = cc in absurd (omega arith)
 
-  pub newest_none : None ≡ last_index (λ x. record_names x r) (take (n - 0) xs) → None ≡ status_in (youngest r (flight_of t (slots_of (take n xs) ws)))
-  newest_none h =
-      let e : n - 0 ≡ n = omega arith in
-      let f = found_progress r (take n xs) in
-      let g = rw e at h in
-      sym (newest_is t r (take n xs) ws ∙ ap (λ o. seen o (slice_index ws r)) (sym f ∙ ap (progress_at (take n xs)) (sym g)))
+-- what the search over the records tells
+module _ (t r : ℕ) (xs : List HistoryRecord) (ws : List ℕ) where
+  -- a register is held up by its youngest record alone
+  pub held_by : held_up (youngest r (flight_of t (slots_of xs ws))) ≡ unfinished (newest_progress r xs)
+  held_by = held_seen (youngest r (flight_of t (slots_of xs ws))) (newest_progress r xs) (slice_index ws r) (newest_is t r xs ws)
 
-  pub unnamed : None ≡ status_in (youngest r (flight_of t (slots_of (take n xs) ws))) → slice_index (unwind (take n xs) ws) r ≡ slice_index ws r
-  unnamed h = unwind_get r (take n xs) ws (none_named r (take n xs) (seen_none (newest_progress r (take n xs)) (slice_index ws r) (h ∙ newest_is t r (take n xs) ws)))
+  -- one that is not held up has its newest word in the file
+  pub word_by : unfinished (newest_progress r xs) ≡ false → word_in (youngest r (flight_of t (slots_of xs ws))) (slice_index (unwind xs ws) r) ≡ slice_index ws r
+  word_by u =
+      word_seen (youngest r (flight_of t (slots_of xs ws))) (newest_progress r xs) (slice_index (unwind xs ws) r) (slice_index ws r) (newest_is t r xs ws) u
+      (λ n. unwind_get r xs ws (none_named r xs n))

@@ -2,42 +2,32 @@
 // old words back, from the youngest record to the oldest.
 #![tactic(auto)]
 
-ghost use Rattle.std.specs.Prelude.{◌≡◌, ◌<◌, ◌≤◌, take};
+ghost use Rattle.std.specs.Prelude.{◌≡◌, ◌<◌, ◌≤◌};
 ghost use Rattle.recovery.specs.declared.Timing.TheVariants.{Early};
-ghost use Rattle.recovery.specs.Meaning.{awaited_destination, blank};
-ghost use Rattle.history.specs.Unwind.{record_names, unwind, word_at, first_progress, new_record, progress_by, file_after};
-ghost use Rattle.history.specs.Buffer.{meaning_of, newest_of, without_oldest, in_use};
-ghost use Rattle.std.proofs.Common.{arith, rules};
+ghost use Rattle.recovery.specs.Meaning.{awaited, awaited_destination, blank};
+ghost use Rattle.history.specs.Unwind.{record_names, unwind, word_at, first_progress, new_record, newest_progress, progress_by, file_after};
+ghost use Rattle.history.specs.Buffer.{meaning_of};
+ghost use Rattle.std.proofs.Common.{arith};
 ghost use Rattle.history.specs.Steps.{flown};
 ghost use Rattle.history.specs.Unwinding.{length_unwind};
 
 pub mod buffer;
 
+use arrayvec::ArrayVec;
 pub use buffer::HistoryBuffer;
 use buffer::{HistoryRecord, Progress};
 use isa::fault::Fault;
 use recovery::search::{Naming, youngest};
 use recovery::slots::put_word;
-use recovery::{Admitted, Recovery, Retired, Status, Timing};
+use recovery::{AdmitError, Recovery, Timing, Trap};
 
 impl Naming<u8> for HistoryRecord {
     ghost names = { record_names };
 
     fn is_for(&self, key: u8) -> bool {
-        match self.destination {
-            Some(register) => register == key,
-            None => false,
-        }
+        self.destination == Some(key)
     }
 }
-
-// What the array holds past the records in use.
-const UNUSED: HistoryRecord = HistoryRecord {
-    counter: 0,
-    destination: None,
-    old: 0,
-    progress: Progress::Waiting,
-};
 
 // The word that a destination has now; no file has a register above 15.
 fn word_at(file: &[u32; 16], destination: Option<u8>) -> u32
@@ -88,14 +78,10 @@ fn store(file: &mut [u32; 16], destination: Option<u8>, outcome: Result<u32, Fau
 
 // Puts the old words back, from the youngest record to the oldest: of two records that name one register, the oldest
 // one has the settled word.
-fn unwind_all(file: &mut [u32; 16], records: &[HistoryRecord; 16], count: usize)
-    requires { count ≤ 16 }
-    ensures { file.new ≡ unwind (take count records.entry.now) file.old }
+fn unwind_all(file: &mut [u32; 16], records: &[HistoryRecord])
+    ensures { file.new ≡ unwind records.entry.now file.old }
 {
-    let mut i = count;
-    while i > 0 {
-        i -= 1;
-        let undone = records[i];
+    for undone in records.iter().rev() {
         put_word(file, undone.destination, undone.old);
     }
 }
@@ -110,163 +96,134 @@ impl HistoryBuffer {
             file: [0; 16],
             capacity,
             first: 0,
-            count: 0,
-            records: [UNUSED; 16],
+            records: ArrayVec::new(),
         }
     }
 
-    // The status of the youngest record that names the register: a finished one has its word in the file.
-    fn newest(&self, register: u8) -> Option<Status>
-        requires { register < 16 }
-        ensures { result ≡ newest_of self.now register }
+    // The progress of the youngest record that names the register.
+    #[tactic(auto, using(crate::specs::Unwinding::newest_none))]
+    fn newest(&self, register: u8) -> Option<Progress>
+        ensures { result ≡ newest_progress register self.now.records.items }
     {
-        match youngest(&self.records[0..self.count], register) {
-            Some(i) => {
-                let named = self.records[i];
-                match named.progress {
-                    Progress::Waiting => Some(Status::Pending),
-                    Progress::Finished => Some(Status::Done(self.file[register as usize])),
-                    Progress::Failed(fault) => Some(Status::Faulted(fault)),
-                }
-            }
-            None => None,
-        }
+        let i = youngest(&self.records, register)?;
+        Some(self.records[i].progress)
     }
 
-    // Whether a destination is awaited; no register above 15 can be one.
-    fn awaits(&self, destination: Option<u8>) -> bool
+    // Whether a register is awaited: only the word of a finished record is in the file.
+    #[tactic(auto, using(crate::specs::Steps::awaited_by))]
+    fn awaits(&self, register: u8) -> bool
+        ensures { result ≡ awaited (meaning_of self.now) register }
+    {
+        register >= 16
+            || self
+                .newest(register)
+                .is_some_and(|progress| progress != Progress::Finished)
+    }
+
+    // Whether a destination is awaited.
+    fn awaits_destination(&self, destination: Option<u8>) -> bool
         ensures { result ≡ awaited_destination (meaning_of self.now) destination }
     {
-        let Some(register) = destination else {
-            return false;
-        };
-        if register >= 16 {
-            return true;
-        }
-        match self.newest(register) {
-            None | Some(Status::Done(_)) => false,
-            Some(Status::Pending) | Some(Status::Faulted(_)) => true,
-        }
-    }
-
-    // Lets the oldest record go. No word moves: its result is in the file, and only its old word is lost.
-    fn let_oldest_go(&mut self)
-        requires { 0 < self.old.count }
-        ensures { meaning_of self.new ≡ without_oldest self.old }
-    {
-        self.records.rotate_left(1);
-        self.count -= 1;
-        self.first = self.first.wrapping_add(1);
+        destination.is_some_and(|register| self.awaits(register))
     }
 }
 
 impl Recovery for HistoryBuffer {
     const MARK: Timing = Timing::Early;
 
-    ghost timing = { Early };
+    ghost MARK = { Early };
 
     ghost meaning = { meaning_of };
 
-    ghost sixteen = { λ s. omega (arith, length_unwind (in_use s) s.file, s.sizes) };
+    ghost sixteen = { λ s. omega (arith, length_unwind s.records.items s.file, s.sixteen) };
 
-    ghost some = { first_of (Prim.search rules, Prim.grind (arith, Self.row.coded.inj)) };
+    ghost some = { λ s. s.some };
 
-    ghost most = { first_of (Prim.search rules, Prim.grind (arith, Self.row.coded.inj)) };
+    ghost most = { λ s. s.most };
 
     ghost roomy = { λ s. omega (arith, flown s, s.room) };
-
-    fn timing_mark() -> Timing {
-        Self::MARK
-    }
 
     fn fresh() -> HistoryBuffer {
         HistoryBuffer::with_capacity(1)
     }
 
     fn start(&mut self, capacity: u32) -> bool {
-        if capacity < 1 || capacity > 16 {
+        if !(1..=16).contains(&capacity) {
             return false;
         }
         *self = HistoryBuffer::with_capacity(capacity);
         true
     }
 
+    #[tactic(auto, using(crate::specs::Steps::place_by))]
     fn place(&mut self, register: u8, word: u32) -> bool {
-        if self.count != 0 || register >= 16 {
+        if !self.records.is_empty() || register >= 16 {
             return false;
         }
         self.file[register as usize] = word;
         true
     }
 
-    fn admit(&mut self, counter: u16, destination: Option<u8>) -> Admitted {
-        if self.awaits(destination) {
-            return Admitted::Awaited;
+    #[tactic(auto, using(crate::specs::Steps::admits_full, crate::specs::Steps::admits_tagged, crate::specs::Steps::guarded_more))]
+    fn admit(&mut self, counter: u16, destination: Option<u8>) -> Result<u8, AdmitError> {
+        if self.awaits_destination(destination) {
+            return Err(AdmitError::Awaited);
         }
-        if self.count >= self.capacity as usize {
-            return Admitted::Full;
+        if self.records.len() >= self.capacity as usize {
+            return Err(AdmitError::Full);
         }
-        let tag = self.first.wrapping_add(self.count as u8);
-        self.records[self.count] = new_record(&self.file, counter, destination);
-        self.count += 1;
-        Admitted::Tagged(tag)
+        let tag = self.first.wrapping_add(self.records.len() as u8);
+        self.records
+            .push(new_record(&self.file, counter, destination));
+        Ok(tag)
     }
 
     fn deliver(&mut self, tag: u8, outcome: Result<u32, Fault>) -> bool {
         let i = tag.wrapping_sub(self.first) as usize;
-        if i >= self.count {
+        let Some(record) = self.records.get_mut(i) else {
+            return false;
+        };
+        if record.progress != Progress::Waiting {
             return false;
         }
-        let found = self.records[i];
-        match found.progress {
-            Progress::Waiting => {
-                let progress = store(&mut self.file, found.destination, outcome);
-                self.records[i] = HistoryRecord { progress, ..found };
-                true
-            }
-            Progress::Finished | Progress::Failed(_) => false,
-        }
+        record.progress = store(&mut self.file, record.destination, outcome);
+        true
     }
 
+    #[tactic(auto, using(crate::specs::Steps::looks))]
     fn look(&self, register: u8) -> Option<u32> {
-        if register >= 16 {
+        if self.awaits(register) {
             return None;
         }
-        match self.newest(register) {
-            None => Some(self.file[register as usize]),
-            Some(Status::Done(word)) => match Self::MARK {
-                Timing::Early => Some(word),
-                Timing::Late => None,
-            },
-            Some(Status::Pending) | Some(Status::Faulted(_)) => None,
-        }
+        Some(self.file[register as usize])
     }
 
     fn oldest(&self) -> Option<u16> {
-        if self.count == 0 {
-            None
-        } else {
-            Some(self.records[0].counter)
-        }
+        self.records.first().map(|record| record.counter)
     }
 
-    fn retire(&mut self) -> Retired {
-        if self.count == 0 {
-            return Retired::Nothing;
-        }
-        let head = self.records[0];
+    #[tactic(auto, using(crate::specs::Steps::retires, crate::specs::Steps::guarded_on))]
+    fn retire(&mut self) -> Result<Option<u16>, Trap> {
+        let Some(&head) = self.records.first() else {
+            return Ok(None);
+        };
         match head.progress {
-            Progress::Waiting => Retired::Nothing,
-            Progress::Failed(fault) => Retired::Faulted(head.counter, fault),
+            Progress::Waiting => Ok(None),
+            Progress::Failed(fault) => Err(Trap {
+                counter: head.counter,
+                fault,
+            }),
+            // No word moves: the result is in the file, and only the old word is lost.
             Progress::Finished => {
-                self.let_oldest_go();
-                Retired::Settled(head.counter)
+                self.records.remove(0);
+                self.first = self.first.wrapping_add(1);
+                Ok(Some(head.counter))
             }
         }
     }
 
     fn back_out(&mut self) {
-        unwind_all(&mut self.file, &self.records, self.count);
-        self.count = 0;
+        unwind_all(&mut self.file, &self.records);
+        self.records.clear();
     }
 }

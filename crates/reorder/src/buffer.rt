@@ -1,19 +1,22 @@
 // The state of a reorder buffer; `steps` has what is done with it.
 ghost use Rattle.std.specs.Prelude.{◌≡◌, ◌<◌, ◌≤◌, length};
 
+mod place;
 mod steps;
 
-use recovery::slots::Slot;
+use arrayvec::ArrayVec;
+use place::Place;
 
-// The settled registers and the entries in flight. The oldest entry stands first, and its tag is `first`.
+// The settled registers and the entries in flight, oldest first, where the oldest has the tag `first`.
 #[derive(Drop)]
 pub struct Buffer {
     settled: [u32; 16],
     capacity: u32,
     first: u8,
-    count: usize,
-    slots: [Slot; 16],
-    ghost sizes: { (length settled ≡ 16) × (length slots ≡ 16) },
-    ghost room: { (1 ≤ capacity) × (capacity ≤ 16) × (count ≤ capacity) },
+    places: ArrayVec<Place, 16>,
+    ghost sixteen: { length settled ≡ 16 },
+    ghost some: { 1 ≤ capacity },
+    ghost most: { capacity ≤ 16 },
+    ghost room: { length places.items ≤ capacity },
     ghost tagged: { first < 256 },
 }

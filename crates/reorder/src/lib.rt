@@ -4,107 +4,73 @@
 ghost use Rattle.recovery.specs.declared.Timing.{Timing};
 ghost use Rattle.recovery.specs.declared.Timing.TheVariants.{Early, Late};
 ghost use Rattle.reorder.specs.Mean.{mean};
-ghost use Rattle.std.proofs.Common.{arith, rules};
+ghost use Rattle.std.proofs.Common.{arith};
 ghost use Rattle.reorder.specs.Steps.{mean_length};
 
 pub mod buffer;
 
 use buffer::Buffer;
 use isa::fault::Fault;
-use recovery::{Admitted, Recovery, Retired, Timing};
+use recovery::{AdmitError, Recovery, Timing, Trap};
+use std::marker::PhantomData;
 
-// A reorder buffer: a source is read from the settled registers, once no entry names it.
-#[derive(Drop)]
-pub struct ReorderBuffer {
-    buffer: Buffer,
+// When a source may be read, as a type.
+pub trait Reading {
+    const MARK: Timing;
+
+    ghost MARK: { Timing };
 }
 
-// A reorder buffer with bypasses: a source is read from the youngest entry that names it, once that is done.
-#[derive(Drop)]
-pub struct BypassBuffer {
-    buffer: Buffer,
-}
+// A source is read from the settled registers, once no entry names it.
+pub struct Settled;
 
-impl Recovery for ReorderBuffer {
+impl Reading for Settled {
     const MARK: Timing = Timing::Late;
 
-    ghost timing = { Late };
-
-    ghost meaning = { λ s. mean s.buffer };
-
-    ghost sixteen = { Prim.search rules };
-
-    ghost some = { Prim.search rules };
-
-    ghost most = { Prim.search rules };
-
-    ghost roomy = { λ s. omega (arith, mean_length s.buffer) };
-
-    fn timing_mark() -> Timing {
-        Self::MARK
-    }
-
-    fn fresh() -> ReorderBuffer {
-        ReorderBuffer {
-            buffer: Buffer::new(),
-        }
-    }
-
-    fn start(&mut self, capacity: u32) -> bool {
-        self.buffer.start(capacity)
-    }
-
-    fn place(&mut self, register: u8, word: u32) -> bool {
-        self.buffer.place(register, word)
-    }
-
-    fn admit(&mut self, counter: u16, destination: Option<u8>) -> Admitted {
-        self.buffer.admit(counter, destination)
-    }
-
-    fn deliver(&mut self, tag: u8, outcome: Result<u32, Fault>) -> bool {
-        self.buffer.deliver(tag, outcome)
-    }
-
-    fn look(&self, register: u8) -> Option<u32> {
-        self.buffer.look(Self::MARK, register)
-    }
-
-    fn oldest(&self) -> Option<u16> {
-        self.buffer.oldest()
-    }
-
-    fn retire(&mut self) -> Retired {
-        self.buffer.retire()
-    }
-
-    fn back_out(&mut self) {
-        self.buffer.back_out();
-    }
+    ghost MARK = { Late };
 }
 
-impl Recovery for BypassBuffer {
+// A source is read from the youngest entry that names it, once that is done: past the settled registers.
+pub struct Bypassed;
+
+impl Reading for Bypassed {
     const MARK: Timing = Timing::Early;
 
-    ghost timing = { Early };
+    ghost MARK = { Early };
+}
+
+// A reorder buffer, from which sources are read as R says.
+#[derive(Drop)]
+pub struct Reordering<R> {
+    buffer: Buffer,
+    reading: PhantomData<R>,
+}
+
+// A reorder buffer without bypasses.
+pub type ReorderBuffer = Reordering<Settled>;
+
+// A reorder buffer with bypasses.
+pub type BypassBuffer = Reordering<Bypassed>;
+
+impl<R: Reading> Recovery for Reordering<R> {
+    const MARK: Timing = R::MARK;
+
+    ghost MARK = { R.MARK };
 
     ghost meaning = { λ s. mean s.buffer };
 
-    ghost sixteen = { Prim.search rules };
+    ghost sixteen = { λ s. s.buffer.sixteen };
 
-    ghost some = { Prim.search rules };
+    ghost some = { λ s. s.buffer.some };
 
-    ghost most = { Prim.search rules };
+    ghost most = { λ s. s.buffer.most };
 
-    ghost roomy = { λ s. omega (arith, mean_length s.buffer) };
+    ghost roomy = { λ s. omega (arith, mean_length s.buffer, s.buffer.room) };
 
-    fn timing_mark() -> Timing {
-        Self::MARK
-    }
-
-    fn fresh() -> BypassBuffer {
-        BypassBuffer {
+    fn fresh() -> Self {
+        Reordering {
             buffer: Buffer::new(),
+            reading: PhantomData,
         }
     }
 
@@ -116,7 +82,7 @@ impl Recovery for BypassBuffer {
         self.buffer.place(register, word)
     }
 
-    fn admit(&mut self, counter: u16, destination: Option<u8>) -> Admitted {
+    fn admit(&mut self, counter: u16, destination: Option<u8>) -> Result<u8, AdmitError> {
         self.buffer.admit(counter, destination)
     }
 
@@ -125,14 +91,14 @@ impl Recovery for BypassBuffer {
     }
 
     fn look(&self, register: u8) -> Option<u32> {
-        self.buffer.look(Self::MARK, register)
+        self.buffer.look(R::MARK, register)
     }
 
     fn oldest(&self) -> Option<u16> {
         self.buffer.oldest()
     }
 
-    fn retire(&mut self) -> Retired {
+    fn retire(&mut self) -> Result<Option<u16>, Trap> {
         self.buffer.retire()
     }
 

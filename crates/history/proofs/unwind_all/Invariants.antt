@@ -1,10 +1,7 @@
-use Rattle.std.proofs.Common.{◌≡◌, ◌≤◌, take}
+use Rattle.std.proofs.Common.{◌≡◌}
 use Rattle.history.specs.Unwind.{unwind}
 use Rattle.history.proofs.unwind_all.Given as goal
 
 -- what is left to unwind leaves what the whole would
-abbrev pub invariant-loop-i : goal.invariant-loop-i
-invariant-loop-i l = (l.i ≤ l.count) × (unwind (take l.i l.records) l.file ≡ unwind (take l.count l.records) l.initial.file)
-
-abbrev pub decreases-loop-i : goal.decreases-loop-i
-decreases-loop-i l = l.i
+abbrev pub invariant-loop-undone : goal.invariant-loop-undone
+invariant-loop-undone l = unwind l.undone-iterator.iter.rest.now l.file ≡ unwind l.records l.initial.file

@@ -3,29 +3,20 @@ ghost use Rattle.std.specs.Prelude.{◌≡◌, ◌≤◌};
 ghost use Rattle.recovery.specs.Meaning.{blank, fresh, start_answer, start_leaves, place_answer, place_leaves, awaited_source, awaited_destination, Admits, deliver_answer, deliver_leaves, look_answer, oldest_answer, retire_answer, retire_leaves, backed_out};
 ghost use Rattle.reorder.specs.Mean.{mean, newest_status, readable_word, taker_at, taken_slot};
 
-use super::Buffer;
+use super::{Buffer, Place};
+use arrayvec::ArrayVec;
 use isa::fault::Fault;
 use recovery::search::youngest;
-use recovery::slots::{Slot, put_word, status_at_first, status_by};
-use recovery::{Admitted, Retired, Status, Timing};
-
-// What a slot holds that was never used.
-const UNUSED: Slot = Slot {
-    counter: 0,
-    destination: None,
-    status: Status::Pending,
-};
+use recovery::slots::{Slot, put_word, status_at_first};
+use recovery::{AdmitError, Status, Timing, Trap};
 
 // The word that a source takes from the youngest entry that names it, if it may be read yet.
 fn readable(timing: Timing, status: Status) -> Option<u32>
     ensures { result ≡ readable_word timing status }
 {
-    match status {
-        Status::Done(word) => match timing {
-            Timing::Early => Some(word),
-            Timing::Late => None,
-        },
-        Status::Pending | Status::Faulted(_) => None,
+    match (timing, status) {
+        (Timing::Early, Status::Done(word)) => Some(word),
+        _ => None,
     }
 }
 
@@ -39,8 +30,7 @@ impl Buffer {
             settled: [0; 16],
             capacity,
             first: 0,
-            count: 0,
-            slots: [UNUSED; 16],
+            places: ArrayVec::new(),
         }
     }
 
@@ -56,7 +46,7 @@ impl Buffer {
         ensures answer { result ≡ start_answer capacity }
         ensures leaves { mean self.new ≡ start_leaves (mean self.old) capacity }
     {
-        if capacity < 1 || capacity > 16 {
+        if !(1..=16).contains(&capacity) {
             return false;
         }
         *self = Buffer::empty(capacity);
@@ -64,11 +54,12 @@ impl Buffer {
     }
 
     // Writes a settled register; with something in flight, or above 15, it answers no.
+    #[tactic(auto, using(crate::specs::Steps::place_by))]
     pub fn place(&mut self, register: u8, word: u32) -> bool
         ensures answer { result ≡ place_answer (mean self.old) register }
         ensures leaves { mean self.new ≡ place_leaves (mean self.old) register word }
     {
-        if self.count != 0 || register >= 16 {
+        if !self.places.is_empty() || register >= 16 {
             return false;
         }
         self.settled[register as usize] = word;
@@ -83,57 +74,50 @@ impl Buffer {
     }
 
     // The status of the youngest entry that names the register.
+    #[tactic(auto, using(crate::specs::Steps::newest_none))]
     fn newest(&self, register: u8) -> Option<Status>
         ensures { result ≡ newest_status self.now register }
     {
-        match youngest(&self.slots[0..self.count], register) {
-            Some(i) => Some(self.slots[i].status),
-            None => None,
-        }
+        let i = youngest(&self.places, register)?;
+        Some(self.places[i].slot().status)
     }
 
     // Whether a source is awaited.
     pub fn awaits(&self, timing: Timing, register: u8) -> bool
         ensures { result ≡ awaited_source timing (mean self.now) register }
     {
-        if register >= 16 {
-            return true;
-        }
-        match self.newest(register) {
-            None => false,
-            Some(status) => readable(timing, status).is_none(),
-        }
+        register >= 16
+            || self
+                .newest(register)
+                .is_some_and(|status| readable(timing, status).is_none())
     }
 
     // Whether a destination is awaited: as a source is that is read early.
     fn awaits_destination(&self, destination: Option<u8>) -> bool
         ensures { result ≡ awaited_destination (mean self.now) destination }
     {
-        match destination {
-            Some(register) => self.awaits(Timing::Early, register),
-            None => false,
-        }
+        destination.is_some_and(|register| self.awaits(Timing::Early, register))
     }
 
     // Appends an entry, unless its destination is awaited or the flight is full.
-    pub fn admit(&mut self, counter: u16, destination: Option<u8>) -> Admitted
+    #[tactic(auto, using(crate::specs::Steps::admits_full, crate::specs::Steps::admits_tagged))]
+    pub fn admit(&mut self, counter: u16, destination: Option<u8>) -> Result<u8, AdmitError>
         ensures { Admits (mean self.old) counter destination result (mean self.new) }
     {
         if self.awaits_destination(destination) {
-            return Admitted::Awaited;
+            return Err(AdmitError::Awaited);
         }
-        if self.count >= self.capacity as usize {
-            return Admitted::Full;
+        if self.places.len() >= self.capacity as usize {
+            return Err(AdmitError::Full);
         }
-        let tag = self.first.wrapping_add(self.count as u8);
+        let tag = self.first.wrapping_add(self.places.len() as u8);
         let status = status_at_first(destination);
-        self.slots[self.count] = Slot {
+        self.places.push(Place::of(Slot {
             counter,
             destination,
             status,
-        };
-        self.count += 1;
-        Admitted::Tagged(tag)
+        }));
+        Ok(tag)
     }
 
     // Where the pending entry of a tag stands, if any.
@@ -141,23 +125,16 @@ impl Buffer {
         ensures { result ≡ taker_at self.now tag }
     {
         let i = tag.wrapping_sub(self.first) as usize;
-        if i >= self.count {
-            return None;
-        }
-        match self.slots[i].status {
-            Status::Pending => Some(i),
-            Status::Done(_) | Status::Faulted(_) => None,
-        }
+        let slot = self.places.get(i)?.slot();
+        (slot.status == Status::Pending).then_some(i)
     }
 
     // The pending entry of a tag, if any.
     pub fn taker(&self, tag: u8) -> Option<Slot>
         ensures { result ≡ taken_slot self.now tag }
     {
-        match self.taker_at(tag) {
-            Some(i) => Some(self.slots[i]),
-            None => None,
-        }
+        let i = self.taker_at(tag)?;
+        Some(self.places[i].slot())
     }
 
     // Turns the pending entry of a tag done or faulted; without one it answers no.
@@ -165,13 +142,13 @@ impl Buffer {
         ensures answer { result ≡ deliver_answer (mean self.old) tag }
         ensures leaves { mean self.new ≡ deliver_leaves (mean self.old) tag outcome }
     {
-        match self.taker_at(tag) {
-            Some(i) => {
-                self.slots[i].status = status_by(outcome);
-                true
-            }
-            None => false,
-        }
+        let Some(i) = self.taker_at(tag) else {
+            return false;
+        };
+        let slot = self.places[i].slot();
+        let status = Status::from(outcome);
+        self.places[i] = Place::of(Slot { status, ..slot });
+        true
     }
 
     // The newest word of a source; none where it is awaited.
@@ -191,31 +168,29 @@ impl Buffer {
     pub fn oldest(&self) -> Option<u16>
         ensures { result ≡ oldest_answer (mean self.now) }
     {
-        if self.count == 0 {
-            None
-        } else {
-            Some(self.slots[0].counter)
-        }
+        self.places.first().map(|place| place.slot().counter)
     }
 
     // Settles the oldest entry where it is done; a faulted one is answered and stays.
-    pub fn retire(&mut self) -> Retired
+    pub fn retire(&mut self) -> Result<Option<u16>, Trap>
         ensures answer { result ≡ retire_answer (mean self.old) }
         ensures leaves { mean self.new ≡ retire_leaves (mean self.old) }
     {
-        if self.count == 0 {
-            return Retired::Nothing;
-        }
-        let head = self.slots[0];
+        let Some(place) = self.places.first() else {
+            return Ok(None);
+        };
+        let head = place.slot();
         match head.status {
-            Status::Pending => Retired::Nothing,
-            Status::Faulted(fault) => Retired::Faulted(head.counter, fault),
+            Status::Pending => Ok(None),
+            Status::Faulted(fault) => Err(Trap {
+                counter: head.counter,
+                fault,
+            }),
             Status::Done(word) => {
                 put_word(&mut self.settled, head.destination, word);
-                self.slots.rotate_left(1);
-                self.count -= 1;
+                self.places.remove(0);
                 self.first = self.first.wrapping_add(1);
-                Retired::Settled(head.counter)
+                Ok(Some(head.counter))
             }
         }
     }
@@ -224,6 +199,6 @@ impl Buffer {
     pub fn back_out(&mut self)
         ensures { mean self.new ≡ backed_out (mean self.old) }
     {
-        self.count = 0;
+        self.places.clear();
     }
 }

@@ -1,7 +1,10 @@
-use Rattle.std.proofs.Common.{length, refl, ap, ◌∙◌, arith}
-use Rattle.history.specs.Buffer.{in_use}
+use Rattle.std.proofs.Common.{length, ap, arith}
+use Rattle.history.specs.Unwind.{guarded}
 use Rattle.history.specs.Unwinding.{length_unwind}
 use Rattle.history.proofs.HistoryBufferRecovery.back_out.Goals as goal
 
-pub invariant_of-self : goal.invariant_of-self
-invariant_of-self c = record { sizes = (ap length c.unwind_all.ensures ∙ (length_unwind (in_use c.args.self.now) c.args.self.now.file ∙ c.args.self.now.sizes.0), c.args.self.now.sizes.1); limits = c.args.self.now.limits; room = omega arith; tagged = c.args.self.now.tagged; undisturbed = refl }
+pub invariant_of-self-clause-sixteen : goal.invariant_of-self-clause-sixteen
+invariant_of-self-clause-sixteen c = omega (arith, ap length c.unwind_all.ensures, length_unwind c.deref.result.now c.args.self.now.file, c.args.self.now.sixteen)
+
+pub invariant_of-self-clause-undisturbed : goal.invariant_of-self-clause-undisturbed
+invariant_of-self-clause-undisturbed c = ap guarded c.clear.ensures

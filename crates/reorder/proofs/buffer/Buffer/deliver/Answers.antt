@@ -1,12 +1,24 @@
-use Rattle.reorder.specs.Steps.{delivers_none, delivers}
+use Rattle.std.proofs.Common.{rules}
+use Rattle.arrayvec.proofs.ArrayVecLemmas.{items-with_items}
+use Rattle.reorder.specs.Steps.{delivers_none, delivers, taken}
 use Rattle.reorder.proofs.buffer.Buffer.deliver.Goals as goal
 
-pub returns-in-Some : goal.returns-in-Some
-returns-in-Some c =
-    let r = delivers c.args.self.now c.args.tag c.in-Some.i c.args.outcome c.status_by.result c.ranges.tag.fits c.in-Some.ensures c.status_by.ensures in
+pub returns-in_default : goal.returns-in_default
+returns-in_default c =
+    let r = delivers_none c.args.self.now c.args.tag c.args.outcome c.ranges.tag.fits (search rules) in
     record { answer = r.0; leaves = r.1 }
 
-pub returns-in-None : goal.returns-in-None
-returns-in-None c =
-    let r = delivers_none c.args.self.now c.args.tag c.args.outcome c.ranges.tag.fits c.in-None.ensures in
+pub bounds-deref-i : goal.bounds-deref-i
+bounds-deref-i c =
+    let h = taken c.args.self.now c.args.tag c.in-Some.i c.ranges.tag.fits (search rules) in
+    search rules
+
+pub bounds-deref_mut-i : goal.bounds-deref_mut-i
+bounds-deref_mut-i c =
+    let h = taken c.args.self.now c.args.tag c.in-Some.i c.ranges.tag.fits (search rules) in
+    search rules
+
+pub returns : goal.returns
+returns c =
+    let r = delivers c.args.self.now c.args.tag c.in-Some.i c.args.outcome c.slot-slot.result _ c.ranges.tag.fits (search rules) (search rules) (search (rules, items-with_items)) in
     record { answer = r.0; leaves = r.1 }
