@@ -1,12 +1,16 @@
 // Where the models differ.
-use crate::covered::{Call, Covered};
-use second::Record;
-use std::alloc::{AllocError, Global};
+use crate::covered::{Call, Covered, Tally};
+use arrayvec::ArrayVec;
+use isa::fault::{Fault, cause_number};
+use isa::refusal::Refusal;
+use pickcore::record::{CycleRecord, Report, hold_number};
+use std::fmt;
 
 // What is compared. `Plain` is what the plain machine has beside the core.
-#[derive(Clone, Copy)]
+#[derive(Clone, Copy, Default)]
 pub enum What {
     Answer(Call),
+    #[default]
     Records,
     Retired,
     Issued,
@@ -25,10 +29,10 @@ pub enum What {
     PlainData,
 }
 
-impl What {
-    fn name(self) -> &'static str {
-        match self {
-            What::Answer(call) => call.name(),
+impl fmt::Display for What {
+    fn fmt<W: fmt::Write>(&self, f: &mut fmt::Formatter<W>) -> fmt::Result {
+        f.write_str(match self {
+            What::Answer(call) => return call.fmt(f),
             What::Records => "number of records",
             What::Retired => "retired",
             What::Issued => "issued",
@@ -45,81 +49,99 @@ impl What {
             What::PlainCounter => "plain counter",
             What::PlainRegister => "plain register",
             What::PlainData => "plain data",
-        }
+        })
     }
 }
 
-// The words that the core and the other model have for one thing, and where.
-#[derive(Clone, Copy)]
-pub struct Difference {
-    job: u64,
+// Where the play stands: which job, under which scheme, at which of its calls.
+#[derive(Clone, Copy, Default)]
+struct Place {
+    job: Tally,
     scheme: u32,
-    call: u64,
+    call: Tally,
+}
+
+// The words that the core and the other model have for one thing, and where. The default fills a list's free places.
+#[derive(Clone, Copy, Default)]
+struct Difference {
+    place: Place,
     what: What,
     core: u32,
     other: u32,
 }
 
-impl Difference {
-    fn line(&self, heap: Global) -> Result<String, AllocError> {
-        let job = self.job;
-        let scheme = self.scheme;
-        let call = self.call;
-        let what = self.what.name();
-        let core = self.core;
-        let other = self.other;
-        format!(in heap; "job {job} scheme {scheme} call {call}: {what} {core} against {other}\n")
+impl fmt::Display for Place {
+    fn fmt<W: fmt::Write>(&self, f: &mut fmt::Formatter<W>) -> fmt::Result {
+        write!(
+            f,
+            "job {} scheme {} call {}",
+            self.job, self.scheme, self.call
+        )
     }
 }
 
-#[derive(Clone, Copy)]
+impl fmt::Display for Difference {
+    fn fmt<W: fmt::Write>(&self, f: &mut fmt::Formatter<W>) -> fmt::Result {
+        write!(
+            f,
+            "{}: {} {} against {}",
+            self.place, self.what, self.core, self.other
+        )
+    }
+}
+
+// How many differences are shown.
+const SHOWN: usize = 6;
+
+#[derive(Drop)]
 pub struct Findings {
     pub covered: Covered,
-    scheme: u32,
-    // calls made before this job
-    before: u64,
-    differences: u64,
-    first: [Option<Difference>; 6],
+    place: Place,
+    differences: Tally,
+    first: ArrayVec<Difference, SHOWN>,
+}
+
+// The number of a refusal, fault, hold or cause, which is 0 where there is none.
+fn number_or_0<N: Into<u32>>(reason: Option<N>) -> u32 {
+    reason.map_or(0, N::into)
 }
 
 // A counter of a record as a number, which no counter is where there is none.
-fn counter_number(counter: Option<u32>) -> u32 {
-    counter.unwrap_or(u32::MAX)
+fn counter_number<N: Into<u32>>(counter: Option<N>) -> u32 {
+    counter.map_or(u32::MAX, N::into)
 }
 
 impl Findings {
     pub fn new() -> Findings {
         Findings {
-            covered: Covered::new(),
-            scheme: 0,
-            before: 0,
-            differences: 0,
-            first: [None; 6],
+            covered: Covered::default(),
+            place: Place::default(),
+            differences: Tally::default(),
+            first: ArrayVec::new(),
         }
     }
 
     pub fn begin_job(&mut self, scheme: u32) {
-        self.covered.jobs = self.covered.jobs.wrapping_add(1);
-        self.scheme = scheme;
-        self.before = self.covered.calls;
+        self.covered.jobs.add_one();
+        self.place = Place {
+            job: self.covered.jobs,
+            scheme,
+            call: Tally::default(),
+        };
     }
 
     pub fn compare(&mut self, what: What, core: u32, other: u32) {
         if core == other {
             return;
         }
-        let difference = Difference {
-            job: self.covered.jobs,
-            scheme: self.scheme,
-            call: self.covered.calls.wrapping_sub(self.before),
+        self.differences.add_one();
+        // what finds the list full is counted and not shown
+        let _ = self.first.try_push(Difference {
+            place: self.place,
             what,
             core,
             other,
-        };
-        if self.differences < 6 {
-            self.first[self.differences as usize] = Some(difference);
-        }
-        self.differences = self.differences.wrapping_add(1);
+        });
     }
 
     // Compares words one by one, and the lengths.
@@ -132,13 +154,20 @@ impl Findings {
         }
     }
 
-    // Counts a call, and compares its answers.
-    pub fn answer(&mut self, call: Call, core: u32, other: u32) {
+    // Counts a call, and compares the numbers of its answers.
+    pub fn answer_numbers(&mut self, call: Call, core: u32, other: u32) {
         self.covered.answer(call, core);
+        self.place.call.add_one();
         self.compare(What::Answer(call), core, other);
     }
 
-    pub fn record(&mut self, core: Record, other: Record) {
+    // Counts a call, and compares why it was declined, if it was.
+    pub fn answer(&mut self, call: Call, core: Option<Refusal>, other: Option<second::Refusal>) {
+        let number = core.map_or(0, Refusal::number);
+        self.answer_numbers(call, number, number_or_0(other));
+    }
+
+    pub fn record(&mut self, core: CycleRecord, other: second::Record) {
         self.compare(
             What::Retired,
             counter_number(core.retired),
@@ -149,19 +178,37 @@ impl Findings {
             counter_number(core.issued),
             counter_number(other.issued),
         );
-        self.compare(What::Hold, core.hold, other.hold);
-        self.compare(What::CycleCause, core.cause, other.cause);
+        self.compare(What::Hold, hold_number(core.hold), number_or_0(other.hold));
+        self.compare(
+            What::CycleCause,
+            cause_number(core.cause),
+            number_or_0(other.cause),
+        );
     }
 
-    pub fn lines(&self, heap: Global) -> Result<String, AllocError> {
-        let mut text = self.covered.lines(heap)?;
-        for difference in &self.first {
-            if let Some(difference) = difference {
-                text.push_str(difference.line(heap)?.as_str())?;
-            }
+    pub fn report(&mut self, core: Report, other: second::Report) {
+        self.compare(
+            What::Cause,
+            cause_number(core.cause),
+            number_or_0(other.cause),
+        );
+        self.compare(What::Counter, u32::from(core.counter), other.counter);
+        self.compare(What::Count, core.count, other.count);
+    }
+
+    // Compares the fault that the core stopped at, or none, with the plain machine's.
+    pub fn plain_fault(&mut self, core: Option<Fault>, plain: Option<second::Fault>) {
+        let number = core.map_or(0, Fault::number);
+        self.compare(What::PlainFault, number, number_or_0(plain));
+    }
+}
+
+impl fmt::Display for Findings {
+    fn fmt<W: fmt::Write>(&self, f: &mut fmt::Formatter<W>) -> fmt::Result {
+        write!(f, "{}", self.covered)?;
+        for difference in self.first.iter() {
+            writeln!(f, "{difference}")?;
         }
-        let differences = self.differences;
-        text.push_str(format!(in heap; "differences {differences}\n")?.as_str())?;
-        Ok(text)
+        writeln!(f, "differences {}", self.differences)
     }
 }

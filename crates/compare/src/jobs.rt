@@ -1,5 +1,6 @@
 // What a job is made of: a setting, a program, data words, and the orders that the two models are given.
 use crate::seed::Seed;
+use second::Delays;
 use std::alloc::{AllocError, Global};
 
 #[derive(Clone, Copy)]
@@ -10,12 +11,45 @@ pub struct Setting {
     pub data_length: u32,
 }
 
+impl From<Setting> for second::Setting {
+    fn from(setting: Setting) -> second::Setting {
+        let [short, multiply, divide, memory] = setting.delays;
+        second::Setting {
+            delays: Delays {
+                short,
+                multiply,
+                divide,
+                memory,
+            },
+            capacity: setting.capacity,
+            program_length: setting.program_length,
+            data_length: setting.data_length,
+        }
+    }
+}
+
 // What a step or a run is lent: what was loaded, or a list of another length in its place.
 #[derive(Clone, Copy)]
 pub enum Lent {
     All,
     NoProgram,
     OtherData,
+}
+
+impl Lent {
+    pub fn program(self, loaded: &[u32]) -> &[u32] {
+        match self {
+            Lent::NoProgram => &[],
+            Lent::All | Lent::OtherData => loaded,
+        }
+    }
+
+    pub fn data<'a>(self, loaded: &'a mut [u32], other: &'a mut [u32]) -> &'a mut [u32] {
+        match self {
+            Lent::OtherData => other,
+            Lent::All | Lent::NoProgram => loaded,
+        }
+    }
 }
 
 #[derive(Clone, Copy)]
@@ -101,20 +135,13 @@ pub fn program_words(
     seed: &mut Seed,
     setting: Setting,
 ) -> Result<Vec<u32>, AllocError> {
-    let mut words = vec![in heap; 0; setting.program_length as usize]?;
-    for word in words.iter_mut() {
-        *word = program_word(seed, setting);
-    }
-    Ok(words)
+    (0..setting.program_length)
+        .map(|_| program_word(seed, setting))
+        .collect(heap)
 }
 
-pub fn data_words(heap: Global, seed: Seed, length: u32) -> Result<Vec<u32>, AllocError> {
-    let mut seed = seed;
-    let mut words = vec![in heap; 0; length as usize]?;
-    for word in words.iter_mut() {
-        *word = seed.operand();
-    }
-    Ok(words)
+pub fn data_words(heap: Global, mut seed: Seed, length: u32) -> Result<Vec<u32>, AllocError> {
+    (0..length).map(|_| seed.operand()).collect(heap)
 }
 
 // A load with one part out of range.

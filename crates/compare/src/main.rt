@@ -22,20 +22,19 @@ const JOBS: u32 = 1000;
 fn play_all(heap: Global) -> Result<Findings, AllocError> {
     let mut findings = Findings::new();
     for number in 0..JOBS {
-        play::<ReorderBuffer>(heap, number, 1, &mut findings)?;
-        play::<BypassBuffer>(heap, number, 2, &mut findings)?;
-        play::<HistoryBuffer>(heap, number, 3, &mut findings)?;
-        play::<FutureFile>(heap, number, 4, &mut findings)?;
+        play::<ReorderBuffer>(heap, number, &mut findings)?;
+        play::<BypassBuffer>(heap, number, &mut findings)?;
+        play::<HistoryBuffer>(heap, number, &mut findings)?;
+        play::<FutureFile>(heap, number, &mut findings)?;
     }
-    play_stretch::<ReorderBuffer>(heap, 1, &mut findings)?;
-    play_stretch::<BypassBuffer>(heap, 2, &mut findings)?;
-    play_stretch::<HistoryBuffer>(heap, 3, &mut findings)?;
-    play_stretch::<FutureFile>(heap, 4, &mut findings)?;
+    play_stretch::<ReorderBuffer>(heap, &mut findings)?;
+    play_stretch::<BypassBuffer>(heap, &mut findings)?;
+    play_stretch::<HistoryBuffer>(heap, &mut findings)?;
+    play_stretch::<FutureFile>(heap, &mut findings)?;
     Ok(findings)
 }
 
 fn main(rt: HostRuntime) -> io::Result<()> {
     let findings = play_all(rt.alloc())?;
-    let text = findings.lines(rt.alloc())?;
-    print!(rt; "{text}")
+    print!(rt; "{findings}")
 }

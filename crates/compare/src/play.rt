@@ -3,12 +3,15 @@ use crate::covered::Call;
 use crate::findings::{Findings, What};
 use crate::jobs::{Lent, Order, Setting, data_words, job_setting, next_order, program_words};
 use crate::seed::Seed;
-use isa::fault::cause_number;
+use future::FutureFile;
+use history::HistoryBuffer;
+use isa::fault::{Cause, Fault};
 use isa::refusal::Refusal;
-use pickcore::record::{CycleRecord, hold_number};
+use pickcore::record::CycleRecord;
 use pickcore::state::Core;
 use recovery::Recovery;
-use second::{Delays, Record, Second, Simple};
+use reorder::{BypassBuffer, ReorderBuffer};
+use second::{Record, Second, Simple};
 use std::alloc::{AllocError, Global};
 
 // How many cycles a run asks for.
@@ -19,6 +22,12 @@ const GUARD: u32 = 0x600d_600d;
 
 const ORDERS: u32 = 48;
 
+// The kind of a store's word.
+const STORE: u32 = 9;
+
+// Data words of a length that no job has.
+const OTHER_DATA: [u32; 9] = [7; 9];
+
 // A record of no cycle, to fill lists with.
 const BLANK: CycleRecord = CycleRecord {
     retired: None,
@@ -27,57 +36,29 @@ const BLANK: CycleRecord = CycleRecord {
     cause: None,
 };
 
-// A number for an answer: 0, or the refusal's.
-fn answer_of(answer: Result<(), Refusal>) -> u32 {
-    match answer {
-        Ok(()) => 0,
-        Err(refusal) => refusal.number(),
-    }
+// A scheme, with the number by which the second model knows it.
+pub trait Scheme: Recovery + Drop {
+    const NUMBER: u32;
 }
 
-fn other_answer(answer: Result<(), u32>) -> u32 {
-    match answer {
-        Ok(()) => 0,
-        Err(number) => number,
-    }
+impl Scheme for ReorderBuffer {
+    const NUMBER: u32 = 1;
 }
 
-fn wide(counter: Option<u16>) -> Option<u32> {
-    match counter {
-        Some(counter) => Some(counter as u32),
-        None => None,
-    }
+impl Scheme for BypassBuffer {
+    const NUMBER: u32 = 2;
 }
 
-// A cycle's record as the second model has it.
-fn record_of(record: CycleRecord) -> Record {
-    Record {
-        retired: wide(record.retired),
-        issued: wide(record.issued),
-        hold: hold_number(record.hold),
-        cause: cause_number(record.cause),
-    }
+impl Scheme for HistoryBuffer {
+    const NUMBER: u32 = 3;
 }
 
-// Compares what two runs answered, and tells how many cycles the core ran.
-fn ran(core: Result<usize, Refusal>, second: Result<usize, u32>, findings: &mut Findings) -> usize {
-    let (number, many) = match core {
-        Ok(many) => (0, many),
-        Err(refusal) => (refusal.number(), 0),
-    };
-    let (other, other_many) = match second {
-        Ok(many) => (0, many),
-        Err(number) => (number, 0),
-    };
-    findings.answer(Call::Run, number, other);
-    if many != other_many {
-        findings.compare(What::Records, 0, 1);
-    }
-    many
+impl Scheme for FutureFile {
+    const NUMBER: u32 = 4;
 }
 
 #[derive(Drop)]
-struct Pair<S: Recovery> {
+struct Pair<S: Scheme> {
     core: Core<S>,
     second: Second,
     plain: Simple,
@@ -91,33 +72,34 @@ struct Pair<S: Recovery> {
     took_back: bool,
 }
 
-impl<S: Recovery> Pair<S> {
+impl<S: Scheme> Pair<S> {
+    // New models with a program and data words from the seed, never loaded.
+    fn new(heap: Global, seed: &mut Seed, setting: Setting) -> Result<Pair<S>, AllocError> {
+        let program = program_words(heap, seed, setting)?;
+        let length = setting.data_length;
+        Ok(Pair {
+            core: Core::new(),
+            second: Second::new(S::NUMBER),
+            plain: Simple::new(),
+            program,
+            core_data: data_words(heap, *seed, length)?,
+            second_data: data_words(heap, *seed, length)?,
+            plain_data: data_words(heap, *seed, length)?,
+            in_flight: 0,
+            took_back: false,
+        })
+    }
+
     fn load(&mut self, setting: Setting, findings: &mut Findings) {
-        let core = answer_of(
-            self.core.load(
-                setting.delays,
-                setting.capacity,
-                setting.program_length,
-                setting.data_length,
-            ),
+        let core = self.core.load(
+            setting.delays,
+            setting.capacity,
+            setting.program_length,
+            setting.data_length,
         );
-        let [short, multiply, divide, memory] = setting.delays;
-        let delays = Delays {
-            short,
-            multiply,
-            divide,
-            memory,
-        };
-        let second = other_answer(
-            self.second.load(
-                delays,
-                setting.capacity,
-                setting.program_length,
-                setting.data_length,
-            ),
-        );
-        findings.answer(Call::Load, core, second);
-        if core == 0 {
+        let second = self.second.load(setting.into());
+        findings.answer(Call::Load, core.err(), second.err());
+        if core.is_ok() {
             findings.covered.load(setting);
             self.plain = Simple::new();
             self.took_back = false;
@@ -125,88 +107,59 @@ impl<S: Recovery> Pair<S> {
     }
 
     fn resume(&mut self, counter: u32, findings: &mut Findings) {
-        let core = answer_of(self.core.resume(counter));
-        let second = other_answer(self.second.resume(counter));
-        findings.answer(Call::Resume, core, second);
-        if core == 0 {
+        let core = self.core.resume(counter);
+        let second = self.second.resume(counter);
+        findings.answer(Call::Resume, core.err(), second.err());
+        if core.is_ok() {
             self.plain.counter = counter as usize;
             if self.took_back {
-                let many = findings.covered.resumes_after_backing_out;
-                findings.covered.resumes_after_backing_out = many.wrapping_add(1);
+                findings.covered.resumes_after_backing_out.add_one();
             }
         }
     }
 
     fn amend(&mut self, register: u32, word: u32, findings: &mut Findings) {
-        let core = answer_of(self.core.amend(register, word));
-        let second = other_answer(self.second.amend(register, word));
-        findings.answer(Call::Amend, core, second);
-        if core == 0 && register < 16 {
-            self.plain.registers[register as usize] = word;
+        let core = self.core.amend(register, word);
+        let second = self.second.amend(register, word);
+        findings.answer(Call::Amend, core.err(), second.err());
+        if core.is_ok() {
+            if let Some(place) = self.plain.registers.get_mut(register as usize) {
+                *place = word;
+            }
         }
     }
 
     fn cut(&mut self, findings: &mut Findings) {
-        let core = answer_of(self.core.cut());
-        let second = other_answer(self.second.cut());
-        findings.answer(Call::Cut, core, second);
-        if core == 0 {
+        let core = self.core.cut();
+        let second = self.second.cut();
+        findings.answer(Call::Cut, core.err(), second.err());
+        if core.is_ok() {
             if self.in_flight >= 2 {
-                let many = findings.covered.cuts_in_flight;
-                findings.covered.cuts_in_flight = many.wrapping_add(1);
+                findings.covered.cuts_in_flight.add_one();
             }
-            self.stop(8, findings);
+            self.stop(Cause::Cut, findings);
         }
     }
 
     fn request(&mut self, findings: &mut Findings) {
-        let core = answer_of(self.core.request());
-        let second = other_answer(self.second.request());
-        findings.answer(Call::Request, core, second);
+        let core = self.core.request();
+        let second = self.second.request();
+        findings.answer(Call::Request, core.err(), second.err());
     }
 
     fn step(&mut self, lent: Lent, findings: &mut Findings) {
-        // no job has as many data words
-        let mut other_data = [7; 9];
-        let program = self.program.as_slice();
-        let core_data = self.core_data.as_mut_slice();
-        let second_data = self.second_data.as_mut_slice();
-        let core = match lent {
-            Lent::All => self.core.step(program, core_data),
-            Lent::NoProgram => self.core.step(&[], core_data),
-            Lent::OtherData => self.core.step(program, &mut other_data),
-        };
-        let second = match lent {
-            Lent::All => self.second.step(program, second_data),
-            Lent::NoProgram => self.second.step(&[], second_data),
-            Lent::OtherData => self.second.step(program, &mut other_data),
-        };
-        findings.words(What::Guard, &other_data, &[7; 9]);
-        self.stepped(core, second, findings);
-    }
-
-    // Compares what two steps answered.
-    fn stepped(
-        &mut self,
-        core: Result<CycleRecord, Refusal>,
-        second: Result<Record, u32>,
-        findings: &mut Findings,
-    ) {
-        let number = match core {
-            Ok(_) => 0,
-            Err(refusal) => refusal.number(),
-        };
-        let other = match second {
-            Ok(_) => 0,
-            Err(number) => number,
-        };
-        findings.answer(Call::Step, number, other);
-        if number == Refusal::Stretch.number() {
-            let many = findings.covered.used_up_stretches;
-            findings.covered.used_up_stretches = many.wrapping_add(1);
+        let mut other_data = OTHER_DATA;
+        let program = lent.program(self.program.as_slice());
+        let core_data = lent.data(self.core_data.as_mut_slice(), &mut other_data);
+        let core = self.core.step(program, core_data);
+        let second_data = lent.data(self.second_data.as_mut_slice(), &mut other_data);
+        let second = self.second.step(program, second_data);
+        findings.words(What::Guard, &other_data, &OTHER_DATA);
+        findings.answer(Call::Step, core.err(), second.err());
+        if core == Err(Refusal::Stretch) {
+            findings.covered.used_up_stretches.add_one();
         }
         if let (Ok(record), Ok(other)) = (core, second) {
-            let record = record_of(record);
             findings.record(record, other);
             self.note(record, findings);
         }
@@ -214,35 +167,30 @@ impl<S: Recovery> Pair<S> {
 
     fn run(&mut self, lent: Lent, findings: &mut Findings) {
         let mut records = [BLANK; RUN];
-        let mut others = [record_of(BLANK); RUN];
-        let mut other_data = [7; 9];
-        let program = self.program.as_slice();
-        let core_data = self.core_data.as_mut_slice();
-        let second_data = self.second_data.as_mut_slice();
-        let core = match lent {
-            Lent::All => self.core.run(program, core_data, &mut records),
-            Lent::NoProgram => self.core.run(&[], core_data, &mut records),
-            Lent::OtherData => self.core.run(program, &mut other_data, &mut records),
-        };
-        let second = match lent {
-            Lent::All => self.second.run(program, second_data, &mut others),
-            Lent::NoProgram => self.second.run(&[], second_data, &mut others),
-            Lent::OtherData => self.second.run(program, &mut other_data, &mut others),
-        };
-        findings.words(What::Guard, &other_data, &[7; 9]);
-        let many = ran(core, second, findings);
+        let mut others = [Record::default(); RUN];
+        let mut other_data = OTHER_DATA;
+        let program = lent.program(self.program.as_slice());
+        let core_data = lent.data(self.core_data.as_mut_slice(), &mut other_data);
+        let core = self.core.run(program, core_data, &mut records);
+        let second_data = lent.data(self.second_data.as_mut_slice(), &mut other_data);
+        let second = self.second.run(program, second_data, &mut others);
+        findings.words(What::Guard, &other_data, &OTHER_DATA);
+        findings.answer(Call::Run, core.err(), second.err());
+        let many = core.unwrap_or(0);
+        if many != second.unwrap_or(0) {
+            findings.compare(What::Records, 0, 1);
+        }
         // places past the last record stay blank in both
-        for place in 0..RUN {
-            let record = record_of(records[place]);
-            findings.record(record, others[place]);
+        for (place, (record, other)) in records.iter().zip(others.iter()).enumerate() {
+            findings.record(*record, *other);
             if place < many {
-                self.note(record, findings);
+                self.note(*record, findings);
             }
         }
     }
 
     // Follows a cycle by its record.
-    fn note(&mut self, record: Record, findings: &mut Findings) {
+    fn note(&mut self, record: CycleRecord, findings: &mut Findings) {
         findings.covered.cycle(record);
         if record.retired.is_some() {
             self.in_flight = self.in_flight.saturating_sub(1);
@@ -252,33 +200,31 @@ impl<S: Recovery> Pair<S> {
             let kind = word.unwrap_or(0) >> 28;
             findings.covered.issue(kind);
             // a store is done at once, and is never in flight
-            if kind != 9 {
+            if kind != STORE {
                 self.in_flight = self.in_flight.saturating_add(1);
             }
         }
-        if record.cause != 0 {
-            self.stop(record.cause, findings);
+        if let Some(cause) = record.cause {
+            self.stop(cause, findings);
         }
     }
 
     // Follows a stop: the plain machine comes to the same state, by as many steps as were counted.
-    fn stop(&mut self, cause: u32, findings: &mut Findings) {
+    fn stop(&mut self, cause: Cause, findings: &mut Findings) {
         findings.covered.stop(cause);
         self.took_back = self.in_flight >= 2;
         self.in_flight = 0;
         let Ok(report) = self.core.report() else {
-            findings.compare(What::Cause, 0, cause);
+            findings.compare(What::Cause, 0, cause.number());
             return;
         };
         for _ in 0..report.count {
-            let fault = self.plain_step(findings);
-            findings.compare(What::PlainFault, 0, fault);
+            self.plain_step(None, findings);
         }
         let counter = u32::try_from(self.plain.counter).unwrap_or(u32::MAX);
-        findings.compare(What::PlainCounter, report.counter as u32, counter);
-        if cause <= 6 {
-            let fault = self.plain_step(findings);
-            findings.compare(What::PlainFault, cause, fault);
+        findings.compare(What::PlainCounter, u32::from(report.counter), counter);
+        if let Cause::Fault(fault) = cause {
+            self.plain_step(Some(fault), findings);
         }
         let (registers, _) = self.core.registers();
         findings.words(What::PlainRegister, &registers, &self.plain.registers);
@@ -289,42 +235,30 @@ impl<S: Recovery> Pair<S> {
         );
     }
 
-    // A step of the plain machine: 0, or its fault.
-    fn plain_step(&mut self, findings: &mut Findings) -> u32 {
-        findings.covered.plain_steps = findings.covered.plain_steps.wrapping_add(1);
-        other_answer(
-            self.plain
-                .step(self.program.as_slice(), self.plain_data.as_mut_slice()),
-        )
+    // A step of the plain machine where the core had this fault, or none.
+    fn plain_step(&mut self, fault: Option<Fault>, findings: &mut Findings) {
+        findings.covered.plain_steps.add_one();
+        let step = self
+            .plain
+            .step(self.program.as_slice(), self.plain_data.as_mut_slice());
+        findings.plain_fault(fault, step.err());
     }
 
     fn compare_reports(&self, findings: &mut Findings) {
         let core = self.core.report();
         let second = self.second.report();
-        let number = match core {
-            Ok(_) => 0,
-            Err(refusal) => refusal.number(),
-        };
-        let other = match second {
-            Ok(_) => 0,
-            Err(number) => number,
-        };
-        findings.answer(Call::Report, number, other);
+        findings.answer(Call::Report, core.err(), second.err());
         if let (Ok(report), Ok(other)) = (core, second) {
-            findings.compare(What::Cause, cause_number(report.cause), other.cause);
-            findings.compare(What::Counter, report.counter as u32, other.counter);
-            findings.compare(What::Count, report.count, other.count);
+            findings.report(report, other);
         }
     }
 
     fn compare_words(&self, findings: &mut Findings) {
         let (registers, number) = self.core.registers();
-        let (others, other) = match self.second.registers() {
-            Ok(registers) => (registers, 0),
-            Err(number) => ([0; 16], number),
-        };
-        findings.answer(Call::Registers, number, other);
-        findings.words(What::Register, &registers, &others);
+        let second = self.second.registers();
+        findings.answer_numbers(Call::Registers, number, second.err().map_or(0, u32::from));
+        // a core that runs answers zeros
+        findings.words(What::Register, &registers, &second.unwrap_or([0; 16]));
         findings.words(
             What::Data,
             self.core_data.as_slice(),
@@ -332,16 +266,22 @@ impl<S: Recovery> Pair<S> {
         );
     }
 
-    // Writes images into buffers of 37 words, of which the last stays.
+    // Writes the models' images into these buffers; whether the core wrote one.
+    fn write_images(&self, image: &mut [u32], other: &mut [u32], findings: &mut Findings) -> bool {
+        let core = self.core.write_image(image);
+        let second = self.second.write_image(other);
+        findings.answer(Call::WriteImage, core.err(), second.err());
+        core.is_ok()
+    }
+
+    // Buffers of 37 words, of which the last stays.
     fn compare_images(&self, findings: &mut Findings) {
         let mut image = [GUARD; 37];
         let mut other = [GUARD; 37];
-        let number = answer_of(self.core.write_image(&mut image));
-        let other_number = other_answer(self.second.write_image(&mut other));
-        findings.answer(Call::WriteImage, number, other_number);
+        let written = self.write_images(&mut image, &mut other, findings);
         findings.words(What::Image, &image, &other);
         findings.compare(What::Guard, image[36], GUARD);
-        if number != 0 {
+        if !written {
             findings.words(What::Guard, &image, &[GUARD; 37]);
         }
     }
@@ -350,9 +290,7 @@ impl<S: Recovery> Pair<S> {
     fn write_short_image(&self, findings: &mut Findings) {
         let mut image = [GUARD; 35];
         let mut other = [GUARD; 35];
-        let number = answer_of(self.core.write_image(&mut image));
-        let other_number = other_answer(self.second.write_image(&mut other));
-        findings.answer(Call::WriteImage, number, other_number);
+        self.write_images(&mut image, &mut other, findings);
         findings.words(What::Guard, &image, &[GUARD; 35]);
         findings.words(What::Guard, &other, &[GUARD; 35]);
     }
@@ -375,39 +313,16 @@ impl<S: Recovery> Pair<S> {
     }
 }
 
-// New models with a program and data words from the seed, never loaded.
-fn new_pair<S: Recovery + Drop>(
-    heap: Global,
-    scheme: u32,
-    seed: &mut Seed,
-    setting: Setting,
-) -> Result<Pair<S>, AllocError> {
-    let program = program_words(heap, seed, setting)?;
-    let length = setting.data_length;
-    Ok(Pair {
-        core: Core::new(),
-        second: Second::new(scheme),
-        plain: Simple::new(),
-        program,
-        core_data: data_words(heap, *seed, length)?,
-        second_data: data_words(heap, *seed, length)?,
-        plain_data: data_words(heap, *seed, length)?,
-        in_flight: 0,
-        took_back: false,
-    })
-}
-
 // The job of a number: loaded, with words in the registers that its program uses most, and then orders by chance.
-pub fn play<S: Recovery + Drop>(
+pub fn play<S: Scheme>(
     heap: Global,
     number: u32,
-    scheme: u32,
     findings: &mut Findings,
 ) -> Result<(), AllocError> {
-    findings.begin_job(scheme);
+    findings.begin_job(S::NUMBER);
     let mut seed = Seed::new(number);
     let setting = job_setting(&mut seed);
-    let mut pair: Pair<S> = new_pair(heap, scheme, &mut seed, setting)?;
+    let mut pair: Pair<S> = Pair::new(heap, &mut seed, setting)?;
     pair.follow(Order::Load(setting), findings);
     for register in 0..5 {
         pair.follow(Order::Amend(register, seed.operand()), findings);
@@ -422,27 +337,18 @@ pub fn play<S: Recovery + Drop>(
 }
 
 // A job that uses up a stretch: its program is a loop, and the step after the millionth is declined.
-pub fn play_stretch<S: Recovery + Drop>(
-    heap: Global,
-    scheme: u32,
-    findings: &mut Findings,
-) -> Result<(), AllocError> {
-    findings.begin_job(scheme);
+pub fn play_stretch<S: Scheme>(heap: Global, findings: &mut Findings) -> Result<(), AllocError> {
+    findings.begin_job(S::NUMBER);
     let setting = Setting {
         delays: [2, 3, 4, 2],
         capacity: 4,
         program_length: 4,
         data_length: 2,
     };
-    let mut seed = Seed::new(scheme);
-    let mut pair: Pair<S> = new_pair(heap, scheme, &mut seed, setting)?;
+    let mut seed = Seed::new(S::NUMBER);
+    let mut pair: Pair<S> = Pair::new(heap, &mut seed, setting)?;
     // add R1 to R2, multiply R3 of R2 and R1, load R4, branch to the first
-    let mut program = vec![in heap; 0xa000_0000; 4]?;
-    let words = program.as_mut_slice();
-    words[0] = 0x2221_0000;
-    words[1] = 0x5321_0000;
-    words[2] = 0x8400_0001;
-    pair.program = program;
+    pair.program = vec![in heap; 0x2221_0000, 0x5321_0000, 0x8400_0001, 0xa000_0000]?;
     pair.follow(Order::Load(setting), findings);
     pair.follow(Order::Amend(1, 0x8000_0001), findings);
     pair.follow(Order::Resume(0), findings);

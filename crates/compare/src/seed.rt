@@ -27,9 +27,9 @@ impl Seed {
 
     pub fn word(&mut self) -> u32 {
         let mut state = self.state;
-        state = state ^ (state << 13);
-        state = state ^ (state >> 17);
-        state = state ^ (state << 5);
+        state ^= state << 13;
+        state ^= state >> 17;
+        state ^= state << 5;
         self.state = state;
         state.wrapping_mul(0x85eb_ca6b)
     }

@@ -4,6 +4,7 @@ ghost use Rattle.std.specs.Prelude.{◌≤◌, length, IfOk};
 
 use crate::flight::{Flight, Flying};
 use crate::instruction::{Instruction, Unit, fetch, put, store, word_of};
+use crate::reasons::{Cause, Fault, Hold, Refusal};
 
 /// How many cycles may follow a resume.
 const STRETCH: u32 = 1_000_000;
@@ -28,67 +29,29 @@ impl Delays {
     }
 
     fn are_good(&self) -> bool {
-        from_1_to_16(self.short)
-            && from_1_to_16(self.multiply)
-            && from_1_to_16(self.divide)
-            && from_1_to_16(self.memory)
+        [self.short, self.multiply, self.divide, self.memory]
+            .iter()
+            .all(|delay| from_1_to_16(*delay))
     }
 }
 
 fn from_1_to_16(number: u32) -> bool {
-    1 <= number && number <= 16
+    (1..=16).contains(&number)
 }
 
-/// What happened in a cycle.
-#[derive(Clone, Copy, PartialEq, Eq, Debug)]
-pub struct Record {
-    pub retired: Option<u32>,
-    pub issued: Option<u32>,
-    pub hold: u32,
-    pub cause: u32,
-}
-
-/// Why the core stopped, where, and after how many instructions.
-#[derive(Clone, Copy, PartialEq, Eq, Debug)]
-pub struct Report {
-    pub cause: u32,
-    pub counter: u32,
-    pub count: u32,
-}
-
-/// How the second half of a cycle ends.
+/// What a core is loaded with.
 #[derive(Clone, Copy)]
-enum Ending {
-    Issued,
-    Held(u32),
-    Stopped(u32),
+pub struct Setting {
+    pub delays: Delays,
+    pub capacity: u32,
+    pub program_length: u32,
+    pub data_length: u32,
 }
 
-/// A core.
-#[derive(Clone, Copy)]
-pub struct Second {
-    /// A source may be read as soon as its word has come, and not only once it is settled.
-    early: bool,
-    delays: Delays,
-    capacity: usize,
-    program_length: usize,
-    data_length: usize,
-    /// The words as of the last instruction that retired.
-    pub(crate) registers: [u32; 16],
-    flight: Flight,
-    pub(crate) running: bool,
-    requested: bool,
-    pub(crate) counter: u32,
-    pub(crate) cause: u32,
-    pub(crate) count: u32,
-    cycles: u32,
-}
-
-impl Second {
-    /// A core never loaded, of a scheme from 1 to 4; any other number counts as 1.
-    pub fn new(scheme: u32) -> Second {
-        Second {
-            early: 2 <= scheme && scheme <= 4,
+impl Setting {
+    /// The setting of a core never loaded.
+    fn least() -> Setting {
+        Setting {
             delays: Delays {
                 short: 1,
                 multiply: 1,
@@ -98,67 +61,126 @@ impl Second {
             capacity: 1,
             program_length: 1,
             data_length: 0,
+        }
+    }
+
+    fn must_be_good(&self) -> Result<(), Refusal> {
+        if !self.delays.are_good() {
+            return Err(Refusal::Delay);
+        }
+        if !from_1_to_16(self.capacity) {
+            return Err(Refusal::Capacity);
+        }
+        if !(1..=4096).contains(&self.program_length) {
+            return Err(Refusal::ProgramLength);
+        }
+        if self.data_length > 4096 {
+            return Err(Refusal::DataLength);
+        }
+        Ok(())
+    }
+}
+
+/// What happened in a cycle.
+#[derive(Clone, Copy, PartialEq, Eq, Debug, Default)]
+pub struct Record {
+    pub retired: Option<u32>,
+    pub issued: Option<u32>,
+    pub hold: Option<Hold>,
+    pub cause: Option<Cause>,
+}
+
+/// Why the core stopped, where, and after how many instructions. There is no cause before the first stop.
+#[derive(Clone, Copy, PartialEq, Eq, Debug)]
+pub struct Report {
+    pub cause: Option<Cause>,
+    pub counter: u32,
+    pub count: u32,
+}
+
+/// Why a cycle issued nothing.
+#[derive(Clone, Copy)]
+enum Unissued {
+    Held(Hold),
+    Stopped(Cause),
+}
+
+impl From<Hold> for Unissued {
+    fn from(hold: Hold) -> Unissued {
+        Unissued::Held(hold)
+    }
+}
+
+impl From<Fault> for Unissued {
+    fn from(fault: Fault) -> Unissued {
+        Unissued::Stopped(Cause::Fault(fault))
+    }
+}
+
+/// A core.
+#[derive(Clone, Copy)]
+pub struct Second {
+    /// A source may be read as soon as its word has come, and not only once it is settled.
+    early: bool,
+    setting: Setting,
+    /// The words as of the last instruction that retired.
+    pub(crate) registers: [u32; 16],
+    flight: Flight,
+    pub(crate) running: bool,
+    requested: bool,
+    pub(crate) counter: u32,
+    pub(crate) cause: Option<Cause>,
+    pub(crate) count: u32,
+    cycles: u32,
+}
+
+impl Second {
+    /// A core never loaded, of a scheme from 1 to 4; any other number counts as 1.
+    // Kept: a job names its scheme by number, and a core is made for every number.
+    pub fn new(scheme: u32) -> Second {
+        Second::at_rest((2..=4).contains(&scheme), Setting::least())
+    }
+
+    /// A stopped core, all zero.
+    fn at_rest(early: bool, setting: Setting) -> Second {
+        Second {
+            early,
+            setting,
             registers: [0; 16],
             flight: Flight::empty(),
             running: false,
             requested: false,
             counter: 0,
-            cause: 0,
+            cause: None,
             count: 0,
             cycles: 0,
         }
     }
 
-    /// Makes the core all zero, with these delays, this capacity and these lengths.
-    pub fn load(
-        &mut self,
-        delays: Delays,
-        capacity: u32,
-        program_length: u32,
-        data_length: u32,
-    ) -> Result<(), u32> {
+    /// Makes the core all zero, with this setting.
+    pub fn load(&mut self, setting: Setting) -> Result<(), Refusal> {
         self.must_be_stopped()?;
-        if !delays.are_good() {
-            return Err(1);
-        }
-        if !from_1_to_16(capacity) {
-            return Err(2);
-        }
-        if program_length == 0 || program_length > 4096 {
-            return Err(3);
-        }
-        if data_length > 4096 {
-            return Err(4);
-        }
-        self.delays = delays;
-        self.capacity = capacity as usize;
-        self.program_length = program_length as usize;
-        self.data_length = data_length as usize;
-        self.registers = [0; 16];
-        self.flight = Flight::empty();
-        self.requested = false;
-        self.counter = 0;
-        self.cause = 0;
-        self.count = 0;
-        self.cycles = 0;
+        setting.must_be_good()?;
+        *self = Second::at_rest(self.early, setting);
         Ok(())
     }
 
     /// Gives a register a word.
-    pub fn amend(&mut self, register: u32, word: u32) -> Result<(), u32> {
+    pub fn amend(&mut self, register: u32, word: u32) -> Result<(), Refusal> {
         self.must_be_stopped()?;
-        if register > 15 {
-            return Err(7);
-        }
-        put(&mut self.registers, register, word);
+        let place = self
+            .registers
+            .get_mut(register as usize)
+            .ok_or(Refusal::Register)?;
+        *place = word;
         Ok(())
     }
 
     /// Starts the core at a counter.
-    pub fn resume(&mut self, counter: u32) -> Result<(), u32> {
+    pub fn resume(&mut self, counter: u32) -> Result<(), Refusal> {
         self.must_be_stopped()?;
         if counter > 65_535 {
-            return Err(8);
+            return Err(Refusal::Counter);
         }
         self.running = true;
         self.counter = counter;
@@ -168,35 +190,34 @@ impl Second {
     }
 
     /// Asks the core to stop once nothing is in flight.
-    pub fn request(&mut self) -> Result<(), u32> {
+    pub fn request(&mut self) -> Result<(), Refusal> {
         self.must_run()?;
         self.requested = true;
         Ok(())
     }
 
     /// Stops the core at once, and takes back what is in flight.
-    pub fn cut(&mut self) -> Result<(), u32> {
+    pub fn cut(&mut self) -> Result<(), Refusal> {
         self.must_run()?;
         if let Some(oldest) = self.flight.oldest() {
             self.counter = oldest.counter;
         }
-        self.stop(8);
+        self.stop(Cause::Cut);
         Ok(())
     }
 
     /// Moves the core by one cycle.
-    pub fn step(&mut self, program: &[u32], data: &mut [u32]) -> Result<Record, u32> {
+    pub fn step(&mut self, program: &[u32], data: &mut [u32]) -> Result<Record, Refusal> {
         self.may_step(program.len(), data.len())?;
         self.cycles = self.cycles.saturating_add(1);
         match self.retire() {
             Ok(retired) => Ok(self.advance(retired, program, data)),
             Err(fault) => {
-                self.stop(fault);
+                let cause = Cause::Fault(fault);
+                self.stop(cause);
                 Ok(Record {
-                    retired: None,
-                    issued: None,
-                    hold: 0,
-                    cause: fault,
+                    cause: Some(cause),
+                    ..Record::default()
                 })
             }
         }
@@ -208,21 +229,22 @@ impl Second {
         program: &[u32],
         data: &mut [u32],
         records: &mut [Record],
-    ) -> Result<usize, u32>
+    ) -> Result<usize, Refusal>
         ensures { IfOk result (λ n. n ≤ length records.old) }
     {
         self.may_step(program.len(), data.len())?;
-        for place in 0..records.len() {
+        let room = records.len();
+        for (place, slot) in records.iter_mut().enumerate() {
             match self.step(program, data) {
-                Ok(record) => records[place] = record,
+                Ok(record) => *slot = record,
                 Err(_) => return Ok(place),
             }
         }
-        Ok(records.len())
+        Ok(room)
     }
 
     /// How the core stopped last.
-    pub fn report(&self) -> Result<Report, u32> {
+    pub fn report(&self) -> Result<Report, Refusal> {
         self.must_be_stopped()?;
         Ok(Report {
             cause: self.cause,
@@ -232,41 +254,52 @@ impl Second {
     }
 
     /// The words of a stopped core.
-    pub fn registers(&self) -> Result<[u32; 16], u32> {
+    pub fn registers(&self) -> Result<[u32; 16], Refusal> {
         self.must_be_stopped()?;
         Ok(self.registers)
     }
 
-    pub(crate) fn must_be_stopped(&self) -> Result<(), u32> {
-        if self.running { Err(6) } else { Ok(()) }
-    }
-
-    fn must_run(&self) -> Result<(), u32> {
-        if self.running { Ok(()) } else { Err(5) }
-    }
-
-    fn may_step(&self, program_length: usize, data_length: usize) -> Result<(), u32> {
-        self.must_run()?;
-        if program_length != self.program_length || data_length != self.data_length {
-            return Err(9);
-        }
-        if self.cycles >= STRETCH {
-            Err(10)
+    pub(crate) fn must_be_stopped(&self) -> Result<(), Refusal> {
+        if self.running {
+            Err(Refusal::Running)
         } else {
             Ok(())
         }
     }
 
+    fn must_run(&self) -> Result<(), Refusal> {
+        if self.running {
+            Ok(())
+        } else {
+            Err(Refusal::Stopped)
+        }
+    }
+
+    fn may_step(&self, program_length: usize, data_length: usize) -> Result<(), Refusal> {
+        self.must_run()?;
+        let lengths = (
+            self.setting.program_length as usize,
+            self.setting.data_length as usize,
+        );
+        if (program_length, data_length) != lengths {
+            return Err(Refusal::LentLength);
+        }
+        if self.cycles >= STRETCH {
+            return Err(Refusal::Stretch);
+        }
+        Ok(())
+    }
+
     /// Stops at the counter that stands.
-    fn stop(&mut self, cause: u32) {
+    fn stop(&mut self, cause: Cause) {
         self.flight = Flight::empty();
         self.running = false;
-        self.cause = cause;
+        self.cause = Some(cause);
     }
 
     /// Settles the oldest instruction if its word has come, and answers its counter. Where its fault has come, goes back
     /// to its counter and answers the fault.
-    fn retire(&mut self) -> Result<Option<u32>, u32> {
+    fn retire(&mut self) -> Result<Option<u32>, Fault> {
         let Some(oldest) = self.flight.oldest() else {
             return Ok(None);
         };
@@ -291,108 +324,93 @@ impl Second {
 
     /// The rest of a cycle in which this retired, and the cycle's record.
     fn advance(&mut self, retired: Option<u32>, program: &[u32], data: &mut [u32]) -> Record {
+        let mut record = Record {
+            retired,
+            ..Record::default()
+        };
         let counter = self.counter;
         match self.attempt(program, data) {
-            Ending::Issued => Record {
-                retired,
-                issued: Some(counter),
-                hold: 0,
-                cause: 0,
-            },
-            Ending::Held(hold) => Record {
-                retired,
-                issued: None,
-                hold,
-                cause: 0,
-            },
-            Ending::Stopped(cause) => {
+            Ok(()) => record.issued = Some(counter),
+            Err(Unissued::Held(hold)) => record.hold = Some(hold),
+            Err(Unissued::Stopped(cause)) => {
                 self.stop(cause);
-                Record {
-                    retired,
-                    issued: None,
-                    hold: 0,
-                    cause,
-                }
+                record.cause = Some(cause);
             }
         }
+        record
     }
 
     /// Tries to issue the next instruction.
-    fn attempt(&mut self, program: &[u32], data: &mut [u32]) -> Ending {
-        let alone = self.flight.is_empty();
+    fn attempt(&mut self, program: &[u32], data: &mut [u32]) -> Result<(), Unissued> {
         if self.requested {
-            if !alone {
-                return Ending::Held(1);
-            }
+            self.must_be_alone(Hold::Request)?;
             self.requested = false;
-            return Ending::Stopped(7);
+            return Err(Unissued::Stopped(Cause::Request));
         }
         match fetch(program, self.counter as usize) {
-            Err(fault) => {
-                if alone {
-                    Ending::Stopped(fault)
-                } else {
-                    Ending::Held(2)
-                }
-            }
             Ok(Instruction::Store { a, b, n }) => {
-                if alone {
-                    self.store(data, a, b, n)
-                } else {
-                    Ending::Held(2)
-                }
+                self.must_be_alone(Hold::Flight)?;
+                self.store(data, a, b, n)?;
             }
-            Ok(instruction) => self.issue(instruction, data),
+            Ok(instruction) => self.issue(instruction, data)?,
+            Err(fault) => {
+                self.must_be_alone(Hold::Flight)?;
+                return Err(fault.into());
+            }
+        }
+        Ok(())
+    }
+
+    /// Holds what waits until nothing is in flight.
+    fn must_be_alone(&self, hold: Hold) -> Result<(), Hold> {
+        if self.flight.is_empty() {
+            Ok(())
+        } else {
+            Err(hold)
         }
     }
 
     /// Runs a store, with nothing in flight.
-    fn store(&mut self, data: &mut [u32], a: u32, b: u32, n: u32) -> Ending {
+    fn store(&mut self, data: &mut [u32], a: u32, b: u32, n: u32) -> Result<(), Fault> {
         let address = word_of(&self.registers, a).wrapping_add(n);
-        match store(data, address, word_of(&self.registers, b)) {
-            Ok(()) => {
-                self.count = self.count.saturating_add(1);
-                self.counter = self.counter.saturating_add(1);
-                Ending::Issued
-            }
-            Err(fault) => Ending::Stopped(fault),
-        }
+        store(data, address, word_of(&self.registers, b))?;
+        self.count = self.count.saturating_add(1);
+        self.counter = self.counter.saturating_add(1);
+        Ok(())
     }
 
     /// Issues any other instruction, unless it is held.
-    fn issue(&mut self, instruction: Instruction, data: &[u32]) -> Ending {
+    fn issue(&mut self, instruction: Instruction, data: &[u32]) -> Result<(), Hold> {
         let (a, b) = instruction.sources();
-        let (Some(x), Some(y)) = (self.operand(a), self.operand(b)) else {
-            return Ending::Held(3);
-        };
+        let x = self.operand(a).ok_or(Hold::Source)?;
+        let y = self.operand(b).ok_or(Hold::Source)?;
         // What no unit works on is done as it issues.
         let mut due = self.cycles;
         if let Some(unit) = instruction.unit() {
-            due = due.saturating_add(self.delays.of(unit));
+            due = due.saturating_add(self.setting.delays.of(unit));
             if self.flight.expects(due) {
-                return Ending::Held(4);
+                return Err(Hold::Stage);
             }
         }
         let destination = instruction.destination();
         if self.is_awaited(destination) {
-            return Ending::Held(5);
+            return Err(Hold::Destination);
         }
-        if self.flight.size() >= self.capacity {
-            return Ending::Held(6);
+        if self.flight.size() >= self.setting.capacity as usize {
+            return Err(Hold::Capacity);
         }
         let counter = self.counter;
-        let result = instruction.result(x, y, data);
         self.flight.join(Flying {
             counter,
             destination,
-            result,
+            result: instruction.result(x, y, data),
             due,
         });
         self.counter = match instruction.jump(x, y) {
             Some(target) => target,
             None => counter.saturating_add(1),
         };
-        Ending::Issued
+        Ok(())
     }
 
     /// The word of a source, 0 where there is none to read, or none while the source is awaited.
@@ -402,24 +420,15 @@ impl Second {
         };
         match self.flight.writer(register) {
             None => Some(word_of(&self.registers, register)),
-            Some(writer) => {
-                if self.early {
-                    writer.word_by(self.cycles)
-                } else {
-                    None
-                }
-            }
+            Some(writer) if self.early => writer.word_by(self.cycles),
+            Some(_) => None,
         }
     }
 
     /// Whether the youngest instruction that writes the destination has yet to bring its word.
     fn is_awaited(&self, destination: Option<u32>) -> bool {
-        let Some(register) = destination else {
-            return false;
-        };
-        match self.flight.writer(register) {
-            None => false,
-            Some(writer) => writer.word_by(self.cycles).is_none(),
-        }
+        destination
+            .and_then(|register| self.flight.writer(register))
+            .is_some_and(|writer| writer.word_by(self.cycles).is_none())
     }
 }

@@ -2,21 +2,20 @@
 
 ghost use Rattle.std.specs.Prelude.{◌≤◌};
 
+use crate::reasons::Fault;
+
 /// An instruction that issued and has not retired. Its result is known, and counts from the cycle `due` on.
 #[derive(Clone, Copy)]
 pub struct Flying {
     pub counter: u32,
     pub destination: Option<u32>,
-    pub result: Result<u32, u32>,
+    pub result: Result<u32, Fault>,
     pub due: u32,
 }
 
 impl Flying {
     pub fn writes(&self, register: u32) -> bool {
-        match self.destination {
-            Some(d) => d == register,
-            None => false,
-        }
+        self.destination == Some(register)
     }
 
     /// The word that has come by the cycle; none if it has not, or if a fault came.
@@ -29,6 +28,7 @@ impl Flying {
 }
 
 /// The slots that are taken come before those that are free.
+// Kept: a core is Copy, in fixed memory, which neither a Vec nor an ArrayVec is.
 #[derive(Clone, Copy)]
 pub struct Flight {
     slots: [Option<Flying>; 16],
@@ -51,52 +51,41 @@ impl Flight {
     pub fn size(&self) -> usize
         ensures { result ≤ 16 }
     {
-        for place in 0..16usize {
-            if self.slots[place].is_none() {
-                return place;
-            }
-        }
-        16
+        self.slots
+            .iter()
+            .position(|slot| slot.is_none())
+            .unwrap_or(16)
     }
 
     /// The youngest that writes the register.
     pub fn writer(&self, register: u32) -> Option<Flying> {
-        let mut youngest = None;
-        for slot in &self.slots {
-            if let Some(flying) = slot {
-                if flying.writes(register) {
-                    youngest = Some(*flying);
-                }
-            }
-        }
-        youngest
+        self.slots
+            .iter()
+            .rev()
+            .flatten()
+            .find(|flying| flying.writes(register))
+            .copied()
     }
 
     /// Whether a result comes in that very cycle.
     pub fn expects(&self, cycle: u32) -> bool {
-        for slot in &self.slots {
-            if let Some(flying) = slot {
-                if flying.due == cycle {
-                    return true;
-                }
-            }
-        }
-        false
+        self.slots
+            .iter()
+            .flatten()
+            .any(|flying| flying.due == cycle)
     }
 
     /// Takes one more, the youngest, if there is a free slot.
     pub fn join(&mut self, flying: Flying) {
         let place = self.size();
-        if place < 16 {
-            self.slots[place] = Some(flying);
+        if let Some(slot) = self.slots.get_mut(place) {
+            *slot = Some(flying);
         }
     }
 
     /// Lets the oldest go.
     pub fn leave(&mut self) {
-        for place in 0..15 {
-            self.slots[place] = self.slots[place + 1];
-        }
-        self.slots[15] = None;
+        self.slots[0] = None;
+        self.slots.rotate_left(1);
     }
 }

@@ -1,59 +1,71 @@
 //! Images: the state of a stopped core in 36 words.
 
 use crate::calls::Second;
+use crate::reasons::{Cause, Refusal};
 
 const LENGTH: usize = 36;
 
-const END: u32 = 0xF000_0024;
-
 impl Second {
     /// Writes the core's image into the first 36 words of the buffer.
-    pub fn write_image(&self, buffer: &mut [u32]) -> Result<(), u32> {
+    pub fn write_image(&self, buffer: &mut [u32]) -> Result<(), Refusal> {
         self.must_be_stopped()?;
-        if buffer.len() < LENGTH {
-            return Err(11);
+        let image = buffer.first_chunk_mut::<LENGTH>().ok_or(Refusal::Buffer)?;
+        for (index, word) in image.iter_mut().enumerate() {
+            *word = head(index) | self.number_at(index);
         }
-        for r in 0..16usize {
-            let word = self.registers[r];
-            buffer[2 * r] = head(2 * r) | (word & 0xFFFF);
-            buffer[2 * r + 1] = head(2 * r + 1) | (word >> 16);
-        }
-        buffer[32] = head(32) | self.counter;
-        buffer[33] = head(33) | self.cause;
-        buffer[34] = head(34) | self.count;
-        buffer[35] = END;
         Ok(())
     }
 
-    /// Takes over what an image holds. Beside number 13 stands the index of the first bad word, and 0 beside the others.
-    pub fn take_up(&mut self, image: &[u32]) -> Result<(), (u32, usize)> {
+    /// Takes over what an image holds.
+    pub fn take_up(&mut self, image: &[u32]) -> Result<(), Refusal> {
         if self.running {
-            return Err((6, 0));
+            return Err(Refusal::Running);
         }
         if image.len() != LENGTH {
-            return Err((12, 0));
+            return Err(Refusal::ImageLength);
         }
-        for index in 0..LENGTH {
-            if !is_good(index, image[index]) {
-                return Err((13, index));
+        for (index, word) in image.iter().enumerate() {
+            if !is_good(index, *word) {
+                return Err(Refusal::ImageWord(index));
             }
         }
-        for r in 0..16usize {
-            self.registers[r] = (image[2 * r + 1] << 16) | (image[2 * r] & 0xFFFF);
+        for (register, halves) in self.registers.iter_mut().zip(image.chunks_exact(2)) {
+            if let [low, high] = halves {
+                *register = (*high << 16) | (*low & 0xFFFF);
+            }
         }
         self.counter = body(image[32]);
-        self.cause = body(image[33]);
+        self.cause = Cause::try_from(body(image[33])).ok();
         self.count = body(image[34]);
         Ok(())
     }
+
+    /// The number that the image's word of this index holds.
+    fn number_at(&self, index: usize) -> u32 {
+        match index {
+            32 => self.counter,
+            33 => self.cause.map_or(0, u32::from),
+            34 => self.count,
+            _ => {
+                let word = self.registers.get(index / 2).copied().unwrap_or(0);
+                if index % 2 == 0 {
+                    word & 0xFFFF
+                } else {
+                    word >> 16
+                }
+            }
+        }
+    }
 }
 
-/// The bits that a word of an image has for its index: its kind, and the register that it is of.
+/// The bits that a word of an image has for its index: its kind, and the register that it is of. The last word has no
+/// others.
 fn head(index: usize) -> u32 {
     match index {
         32 => 0x3000_0000,
         33 => 0x4000_0000,
         34 => 0x5000_0000,
+        35 => 0xF000_0024,
         _ => {
             let kind = if index % 2 == 0 {
                 0x1000_0000
@@ -72,12 +84,10 @@ fn body(word: u32) -> u32 {
 
 /// Whether a word of an image keeps the rule of its index.
 fn is_good(index: usize, word: u32) -> bool {
-    if index == 35 {
-        return word == END;
-    }
     let most = match index {
         33 => 8,
         34 => 1_000_000,
+        35 => 0,
         _ => 0xFFFF,
     };
     // What is left without the head is the number that the word holds.

@@ -6,9 +6,11 @@ mod calls;
 mod flight;
 mod image;
 mod instruction;
+mod reasons;
 mod simple;
 
-pub use calls::{Delays, Record, Report, Second};
+pub use calls::{Delays, Record, Report, Second, Setting};
+pub use reasons::{Cause, Fault, Hold, NoCause, Refusal};
 pub use simple::Simple;
 
 #[cfg(test)]
@@ -20,84 +22,52 @@ mod tests {
     #[test]
     fn fault_behind_which_an_add_is_done(rt: HostRuntime) -> Result<(), Fail> {
         let program = [0x1100_0007, 0x6312_0000, 0x2111_0000, 0];
-        let blank = Record {
-            retired: None,
-            issued: None,
-            hold: 0,
-            cause: 0,
+        let blank = Record::default();
+        let issues = |retired, counter| Record {
+            retired,
+            issued: Some(counter),
+            ..Record::default()
         };
+        let holds = |hold| Record {
+            hold: Some(hold),
+            ..Record::default()
+        };
+        let cause = Some(Cause::Fault(Fault::DivideByZero));
         let mut records = [blank; 10];
         let mut core = Second::new(2);
-        core.load(
-            Delays {
+        core.load(Setting {
+            delays: Delays {
                 short: 2,
                 multiply: 4,
                 divide: 5,
                 memory: 3,
             },
-            4,
-            4,
-            0,
-        )?;
+            capacity: 4,
+            program_length: 4,
+            data_length: 0,
+        })?;
         core.resume(0)?;
         assert_eq!(rt; core.run(&program, &mut [], &mut records)?, 8);
-        assert_eq!(rt;
-            records[0],
+        let expected = [
+            issues(None, 0),
+            holds(Hold::Source),
+            issues(Some(0), 1),
+            issues(None, 2),
+            holds(Hold::Flight),
+            holds(Hold::Flight),
+            holds(Hold::Flight),
             Record {
-                retired: None,
-                issued: Some(0),
-                hold: 0,
-                cause: 0,
-            }
-        );
-        assert_eq!(rt;
-            records[1],
-            Record {
-                retired: None,
-                issued: None,
-                hold: 3,
-                cause: 0,
-            }
-        );
-        assert_eq!(rt;
-            records[2],
-            Record {
-                retired: Some(0),
-                issued: Some(1),
-                hold: 0,
-                cause: 0,
-            }
-        );
-        assert_eq!(rt;
-            records[3],
-            Record {
-                retired: None,
-                issued: Some(2),
-                hold: 0,
-                cause: 0,
-            }
-        );
-        let waits = Record {
-            retired: None,
-            issued: None,
-            hold: 2,
-            cause: 0,
-        };
-        assert!(rt; records[4] == waits && records[5] == waits && records[6] == waits);
-        assert_eq!(rt;
-            records[7],
-            Record {
-                retired: None,
-                issued: None,
-                hold: 0,
-                cause: 1,
-            }
-        );
-        assert_eq!(rt; records[8], blank);
+                cause,
+                ..Record::default()
+            },
+            blank,
+            blank,
+        ];
+        assert_eq!(rt; records, expected);
         assert_eq!(rt;
             core.report()?,
             Report {
-                cause: 1,
+                cause,
                 counter: 1,
                 count: 1,
             }

@@ -1,6 +1,7 @@
 //! The plain machine: one instruction at a time.
 
 use crate::instruction::{Instruction, fetch, put, store, word_of};
+use crate::reasons::Fault;
 
 #[derive(Clone, Copy)]
 pub struct Simple {
@@ -18,12 +19,12 @@ impl Simple {
     }
 
     /// Runs the instruction at the counter, or answers its fault and changes nothing.
-    pub fn step(&mut self, program: &[u32], data: &mut [u32]) -> Result<(), u32> {
+    pub fn step(&mut self, program: &[u32], data: &mut [u32]) -> Result<(), Fault> {
         let instruction = fetch(program, self.counter)?;
         let (a, b) = instruction.sources();
         let x = self.operand(a);
         let y = self.operand(b);
-        if let Instruction::Store { a: _, b: _, n } = instruction {
+        if let Instruction::Store { n, .. } = instruction {
             store(data, x.wrapping_add(n), y)?;
         }
         let word = instruction.result(x, y, data)?;
@@ -38,9 +39,6 @@ impl Simple {
     }
 
     fn operand(&self, register: Option<u32>) -> u32 {
-        match register {
-            Some(r) => word_of(&self.registers, r),
-            None => 0,
-        }
+        register.map_or(0, |r| word_of(&self.registers, r))
     }
 }

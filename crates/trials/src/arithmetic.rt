@@ -1,12 +1,7 @@
 // Results, faults and addresses: the plain machine and the core under each scheme agree on them.
-use crate::bench::{Setting, agreed};
+use crate::bench::{SETTING, agreed};
 use isa::fault::{Cause, Fault};
 use std::test::Fail;
-
-const SETTING: Setting = Setting {
-    delays: [2, 4, 5, 3],
-    capacity: 4,
-};
 
 // An instruction that sets R3, the words of R1 and R2 before it, and the word or the fault that it comes to.
 const SUMS: [(u32, u32, u32, Result<u32, Fault>); 23] = [

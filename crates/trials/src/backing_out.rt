@@ -1,13 +1,10 @@
 // Faults with other instructions in flight: the oldest is reported, and all behind it is undone.
-use crate::bench::{BLANK, Setting, agreed, run_on, started};
-use future::FutureFile;
-use history::HistoryBuffer;
+use crate::bench::{BLANK, Setting, agreed, run_on, started, stopped, under_each_scheme};
 use isa::fault::{Cause, Fault};
 use isa::refusal::Refusal;
 use pickcore::record::Report;
 use pickcore::state::Core;
 use recovery::Recovery;
-use reorder::{BypassBuffer, ReorderBuffer};
 use std::process::Abort;
 use std::test::Fail;
 
@@ -100,31 +97,18 @@ fn nothing_is_left<S: Recovery + Drop>(rt: &impl Abort) -> Result<(), Fail> {
     let mut registers = [0; 16];
     registers[1] = 3;
     registers[2] = 5;
-    let report = Report {
-        cause: Some(Cause::Fault(Fault::DivideByZero)),
-        counter: 2,
-        count: 2,
-    };
-    let before = (Ok(report), (registers, 0));
+    let report = stopped(Cause::Fault(Fault::DivideByZero), 2, 2);
+    let before = (report, (registers, 0));
     registers[6] = 9;
     registers[7] = 25;
     registers[8] = 34;
-    let report = Report {
-        cause: Some(Cause::Fault(Fault::Stop)),
-        counter: 8,
-        count: 3,
-    };
-    assert_eq!(rt;
-        (first, resumed, second),
-        (before, Ok(()), (Ok(report), (registers, 0)))
-    );
+    let after = (stopped(Cause::Fault(Fault::Stop), 8, 3), (registers, 0));
+    assert_eq!(rt; (first, resumed, second), (before, Ok(()), after));
     Ok(())
 }
 
 #[test]
 fn nothing_is_left_after_a_fault(rt: HostRuntime) -> Result<(), Fail> {
-    nothing_is_left::<ReorderBuffer>(&rt)?;
-    nothing_is_left::<BypassBuffer>(&rt)?;
-    nothing_is_left::<HistoryBuffer>(&rt)?;
-    nothing_is_left::<FutureFile>(&rt)
+    under_each_scheme!(nothing_is_left(&rt)?);
+    Ok(())
 }

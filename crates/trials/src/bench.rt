@@ -1,16 +1,27 @@
 // What the trials share: running a program on the plain machine, and on a core over each scheme.
-use future::FutureFile;
-use history::HistoryBuffer;
 use isa::fault::{Cause, Fault};
 use isa::plain::PlainMachine;
 use isa::refusal::Refusal;
 use isa::unit::UNITS;
-use pickcore::record::CycleRecord;
+use pickcore::record::{CycleRecord, Report};
 use pickcore::state::Core;
 use recovery::Recovery;
-use reorder::{BypassBuffer, ReorderBuffer};
 use std::process::Abort;
 use std::test::Fail;
+
+// What a trial comes to under each of the four schemes, by number. A `?` behind the call stands behind each of the four.
+macro_rules! under_each_scheme {
+    ($trial:ident($($argument:expr),*) $($question:tt)?) => {
+        [
+            $trial::<reorder::ReorderBuffer>($($argument),*) $($question)?,
+            $trial::<reorder::BypassBuffer>($($argument),*) $($question)?,
+            $trial::<history::HistoryBuffer>($($argument),*) $($question)?,
+            $trial::<future::FutureFile>($($argument),*) $($question)?,
+        ]
+    };
+}
+
+pub(crate) use under_each_scheme;
 
 // A record of no cycle, to fill lists with.
 pub const BLANK: CycleRecord = CycleRecord {
@@ -27,6 +38,14 @@ pub struct Setting {
     pub capacity: u32,
 }
 
+pub const SETTING: Setting = Setting {
+    delays: [2, 4, 5, 3],
+    capacity: 4,
+};
+
+// set R1 7; divide R3 R1 R2; add R1 R1 R1; stop
+pub const EXAMPLE: [u32; 4] = [0x1100_0007, 0x6312_0000, 0x2111_0000, 0];
+
 // How a run ended: why, at which counter, after how many instructions, and what it left.
 #[derive(Clone, Copy, PartialEq, Eq, Debug)]
 pub struct Outcome {
@@ -42,6 +61,21 @@ fn length_of(words: &[u32]) -> u32 {
     u32::try_from(words.len()).unwrap_or(u32::MAX)
 }
 
+// Loads a core with a setting, for a program and data words of these lengths.
+pub fn load<S: Recovery>(
+    core: &mut Core<S>,
+    setting: Setting,
+    program_length: u32,
+    data_length: u32,
+) -> Result<(), Refusal> {
+    core.load(
+        setting.delays,
+        setting.capacity,
+        program_length,
+        data_length,
+    )
+}
+
 // A core that is loaded with a setting and started at counter 0.
 pub fn started<S: Recovery + Drop>(
     setting: Setting,
@@ -49,12 +83,7 @@ pub fn started<S: Recovery + Drop>(
     data: &[u32],
 ) -> Result<Core<S>, Refusal> {
     let mut core: Core<S> = Core::new();
-    core.load(
-        setting.delays,
-        setting.capacity,
-        length_of(program),
-        length_of(data),
-    )?;
+    load(&mut core, setting, length_of(program), length_of(data))?;
     core.resume(0)?;
     Ok(core)
 }
@@ -73,6 +102,15 @@ pub fn run_on<S: Recovery>(
     }
 }
 
+// What a core reports that was stopped by this.
+pub fn stopped(cause: Cause, counter: u16, count: u32) -> Result<Report, Refusal> {
+    Ok(Report {
+        cause: Some(cause),
+        counter,
+        count,
+    })
+}
+
 // What a core that is stopped has come to.
 fn outcome_of<S: Recovery>(core: &Core<S>, data: [u32; 4]) -> Result<Outcome, Refusal> {
     let report = core.report()?;
@@ -89,26 +127,11 @@ fn outcome_of<S: Recovery>(core: &Core<S>, data: [u32; 4]) -> Result<Outcome, Re
 fn core_outcome<S: Recovery + Drop>(
     setting: Setting,
     program: &[u32],
-    data: [u32; 4],
+    mut data: [u32; 4],
 ) -> Result<Outcome, Refusal> {
-    let mut data = data;
     let mut core: Core<S> = started(setting, program, &data)?;
     run_on(&mut core, program, &mut data, &mut [BLANK; 64]);
     outcome_of(&core, data)
-}
-
-// The outcomes under the four schemes, by number.
-fn core_outcomes(
-    setting: Setting,
-    program: &[u32],
-    data: [u32; 4],
-) -> [Result<Outcome, Refusal>; 4] {
-    [
-        core_outcome::<ReorderBuffer>(setting, program, data),
-        core_outcome::<BypassBuffer>(setting, program, data),
-        core_outcome::<HistoryBuffer>(setting, program, data),
-        core_outcome::<FutureFile>(setting, program, data),
-    ]
 }
 
 // Steps until a fault, two thousand times at most; how many steps there were, and the fault.
@@ -126,8 +149,7 @@ fn run_plain(
 }
 
 // The outcome on the plain machine, if it comes to a fault.
-fn plain_outcome(program: &[u32], data: [u32; 4]) -> Option<Outcome> {
-    let mut data = data;
+fn plain_outcome(program: &[u32], mut data: [u32; 4]) -> Option<Outcome> {
     let mut machine = PlainMachine::new();
     let (count, fault) = run_plain(&mut machine, program, &mut data)?;
     Some(Outcome {
@@ -147,7 +169,7 @@ pub fn agreed(
     data: [u32; 4],
 ) -> Result<Outcome, Fail> {
     let outcome = plain_outcome(program, data).ok_or("the plain machine goes on")?;
-    for other in core_outcomes(setting, program, data) {
+    for other in under_each_scheme!(core_outcome(setting, program, data)) {
         assert_eq!(rt; other, Ok(outcome));
     }
     Ok(outcome)

@@ -1,42 +1,24 @@
 // What a core does in each cycle: when an instruction issues, and what holds it.
-use crate::bench::{BLANK, Setting, started};
-use future::FutureFile;
-use history::HistoryBuffer;
+use crate::bench::{BLANK, EXAMPLE, SETTING, Setting, started, stopped, under_each_scheme};
 use isa::fault::{Cause, Fault};
 use isa::refusal::Refusal;
-use pickcore::record::{CycleRecord, Hold, Report};
+use pickcore::record::{CycleRecord, Ending, Hold, Report};
 use pickcore::state::Core;
 use recovery::Recovery;
-use reorder::{BypassBuffer, ReorderBuffer};
 use std::process::Abort;
 use std::test::Fail;
 
 // A cycle in which an instruction issues, is held, or stops the core.
 fn issues(retired: Option<u16>, at: u16) -> CycleRecord {
-    CycleRecord {
-        retired,
-        issued: Some(at),
-        hold: None,
-        cause: None,
-    }
+    CycleRecord::new(retired, Ending::Issued(at))
 }
 
 fn holds(retired: Option<u16>, hold: Hold) -> CycleRecord {
-    CycleRecord {
-        retired,
-        issued: None,
-        hold: Some(hold),
-        cause: None,
-    }
+    CycleRecord::new(retired, Ending::Held(hold))
 }
 
 fn stops(retired: Option<u16>, fault: Fault) -> CycleRecord {
-    CycleRecord {
-        retired,
-        issued: None,
-        hold: None,
-        cause: Some(Cause::Fault(fault)),
-    }
+    CycleRecord::new(retired, Ending::Stopped(Cause::Fault(fault)))
 }
 
 // The first cycles of a program with one data word.
@@ -53,25 +35,16 @@ fn first_cycles<S: Recovery + Drop>(
 
 // The same under the four schemes, by number.
 fn under_each(setting: Setting, program: &[u32]) -> [Result<[CycleRecord; 6], Refusal>; 4] {
-    [
-        first_cycles::<ReorderBuffer>(setting, program),
-        first_cycles::<BypassBuffer>(setting, program),
-        first_cycles::<HistoryBuffer>(setting, program),
-        first_cycles::<FutureFile>(setting, program),
-    ]
+    under_each_scheme!(first_cycles(setting, program))
 }
 
 // A source that is set behind a multiply is read from its entry in flight, and under the late scheme only once both
 // are settled.
 #[test]
 fn bypasses(rt: HostRuntime) {
-    let setting = Setting {
-        delays: [2, 4, 5, 3],
-        capacity: 4,
-    };
     // multiply R3, set R4, add R5 of R4 and R4, stop
     let program = [0x5312_0000, 0x1400_0005, 0x2544_0000, 0];
-    let [late, bypass, history, future] = under_each(setting, &program);
+    let [late, bypass, history, future] = under_each(SETTING, &program);
     let waits = holds(None, Hold::Source);
     let expected = [
         issues(None, 0),
@@ -139,10 +112,6 @@ fn held_for_a_cycle(rt: HostRuntime) -> Result<(), Fail> {
 
 // A set, and behind it a fault that waits until nothing is in flight.
 fn stop_waits(rt: &impl Abort, program: &[u32], fault: Fault) {
-    let setting = Setting {
-        delays: [2, 4, 5, 3],
-        capacity: 4,
-    };
     let expected = [
         issues(None, 0),
         holds(None, Hold::Flight),
@@ -151,7 +120,7 @@ fn stop_waits(rt: &impl Abort, program: &[u32], fault: Fault) {
         BLANK,
         BLANK,
     ];
-    for records in under_each(setting, program) {
+    for records in under_each(SETTING, program) {
         assert_eq!(rt; records, Ok(expected));
     }
 }
@@ -166,18 +135,13 @@ fn stops_wait(rt: HostRuntime) {
 // The worked example: set R1 7, divide R3 by R2, which is 0, add R1 to itself, stop. The divide stops the core, and
 // the add behind it is undone.
 fn worked_example<S: Recovery + Drop>(rt: &impl Abort) -> Result<(), Fail> {
-    let setting = Setting {
-        delays: [2, 4, 5, 3],
-        capacity: 4,
-    };
-    let program = [0x1100_0007, 0x6312_0000, 0x2111_0000, 0x0000_0000];
     // a record that no cycle here has
     let filler = issues(Some(77), 99);
     let mut records = [filler; 10];
-    let mut core: Core<S> = started(setting, &program, &[])?;
+    let mut core: Core<S> = started(SETTING, &EXAMPLE, &[])?;
     let ran = (
-        core.run(&program, &mut [], &mut []),
-        core.run(&program, &mut [], &mut records),
+        core.run(&EXAMPLE, &mut [], &mut []),
+        core.run(&EXAMPLE, &mut [], &mut records),
     );
     let waits = holds(None, Hold::Flight);
     let expected = [
@@ -192,18 +156,11 @@ fn worked_example<S: Recovery + Drop>(rt: &impl Abort) -> Result<(), Fail> {
         filler,
         filler,
     ];
-    let report = Report {
-        cause: Some(Cause::Fault(Fault::DivideByZero)),
-        counter: 1,
-        count: 1,
-    };
+    let report = stopped(Cause::Fault(Fault::DivideByZero), 1, 1);
     let mut registers = [0; 16];
     registers[1] = 7;
     assert_eq!(rt; (ran, records), ((Ok(0), Ok(8)), expected));
-    assert_eq!(rt;
-        (core.report(), core.registers()),
-        (Ok(report), (registers, 0))
-    );
+    assert_eq!(rt; (core.report(), core.registers()), (report, (registers, 0)));
     Ok(())
 }
 
@@ -211,10 +168,8 @@ fn worked_example<S: Recovery + Drop>(rt: &impl Abort) -> Result<(), Fail> {
 // the last cycle stay.
 #[test]
 fn worked_examples(rt: HostRuntime) -> Result<(), Fail> {
-    worked_example::<ReorderBuffer>(&rt)?;
-    worked_example::<BypassBuffer>(&rt)?;
-    worked_example::<HistoryBuffer>(&rt)?;
-    worked_example::<FutureFile>(&rt)
+    under_each_scheme!(worked_example(&rt)?);
+    Ok(())
 }
 
 // A core never loaded has a program of one word and no data words; here set R1 7.
@@ -230,11 +185,7 @@ fn never_loaded<S: Recovery + Drop>(rt: &impl Abort) {
         counter: 0,
         count: 0,
     };
-    let report = Report {
-        cause: Some(Cause::Fault(Fault::PastEnd)),
-        counter: 1,
-        count: 1,
-    };
+    let report = stopped(Cause::Fault(Fault::PastEnd), 1, 1);
     let mut registers = [0; 16];
     registers[1] = 7;
     assert_eq!(rt; (before, resumed), ((Ok(unused), ([0; 16], 0)), Ok(())));
@@ -242,13 +193,10 @@ fn never_loaded<S: Recovery + Drop>(rt: &impl Abort) {
         steps,
         (Ok(issues(None, 0)), Ok(stops(Some(0), Fault::PastEnd)))
     );
-    assert_eq!(rt; after, (Ok(report), (registers, 0)));
+    assert_eq!(rt; after, (report, (registers, 0)));
 }
 
 #[test]
 fn cores_never_loaded(rt: HostRuntime) {
-    never_loaded::<ReorderBuffer>(&rt);
-    never_loaded::<BypassBuffer>(&rt);
-    never_loaded::<HistoryBuffer>(&rt);
-    never_loaded::<FutureFile>(&rt);
+    under_each_scheme!(never_loaded(&rt));
 }

@@ -1,13 +1,10 @@
 // Calls that are declined: with which refusal, and that they change nothing.
-use crate::bench::{BLANK, Setting, started};
-use future::FutureFile;
-use history::HistoryBuffer;
+use crate::bench::{BLANK, SETTING, Setting, load, started, stopped, under_each_scheme};
 use isa::fault::{Cause, Fault};
 use isa::refusal::Refusal;
-use pickcore::record::{CycleRecord, Report};
+use pickcore::record::{CycleRecord, Ending};
 use pickcore::state::Core;
 use recovery::Recovery;
-use reorder::{BypassBuffer, ReorderBuffer};
 use std::process::Abort;
 use std::test::Fail;
 
@@ -77,7 +74,8 @@ fn refusals_to_move<S: Recovery>(
 // Loads that no core takes.
 fn declines_to_load<S: Recovery>(rt: &impl Abort, core: &mut Core<S>, running: bool) {
     for (delays, capacity, program_length, data_length, refusal) in UNFIT {
-        let answer = core.load(delays, capacity, program_length, data_length);
+        let setting = Setting { delays, capacity };
+        let answer = load(core, setting, program_length, data_length);
         assert_eq!(rt;
             answer,
             Err(if running { Refusal::Running } else { refusal })
@@ -88,7 +86,7 @@ fn declines_to_load<S: Recovery>(rt: &impl Abort, core: &mut Core<S>, running: b
 // What only a running core declines.
 fn declines_running<S: Recovery>(rt: &impl Abort, core: &mut Core<S>) {
     let running = Err(Refusal::Running);
-    let answers = (core.load([2, 4, 5, 3], 4, 7, 4), core.resume(0));
+    let answers = (load(core, SETTING, 7, 4), core.resume(0));
     assert_eq!(rt; answers, (running, running));
     assert_eq!(rt;
         (core.report(), core.registers()),
@@ -181,8 +179,8 @@ fn declined_calls_change_nothing<S: Recovery + Drop>(rt: &impl Abort) {
     let mut unasked: Worker<S> = Worker::new();
     declines(rt, &mut asked.core, &program);
     let loads = (
-        asked.core.load([2, 4, 5, 3], 4, 7, 4),
-        unasked.core.load([2, 4, 5, 3], 4, 7, 4),
+        load(&mut asked.core, SETTING, 7, 4),
+        load(&mut unasked.core, SETTING, 7, 4),
     );
     assert_eq!(rt; loads, (Ok(()), Ok(())));
     resume_alike(rt, &mut asked, &mut unasked, &program, 0);
@@ -201,36 +199,36 @@ fn declined_calls_change_nothing<S: Recovery + Drop>(rt: &impl Abort) {
 
 #[test]
 fn declined_calls(rt: HostRuntime) {
-    declined_calls_change_nothing::<ReorderBuffer>(&rt);
-    declined_calls_change_nothing::<BypassBuffer>(&rt);
-    declined_calls_change_nothing::<HistoryBuffer>(&rt);
-    declined_calls_change_nothing::<FutureFile>(&rt);
+    under_each_scheme!(declined_calls_change_nothing(&rt));
 }
 
 // The ends of what a load and a resume take.
 fn takes_the_ends<S: Recovery + Drop>(rt: &impl Abort) {
+    let most = Setting {
+        delays: [16; 4],
+        capacity: 16,
+    };
+    let least = Setting {
+        delays: [1; 4],
+        capacity: 1,
+    };
     let mut core: Core<S> = Core::new();
     let loads = (
-        core.load([16; 4], 16, 4096, 4096),
-        core.load([1; 4], 1, 1, 0),
+        load(&mut core, most, 4096, 4096),
+        load(&mut core, least, 1, 0),
     );
     let resumed = core.resume(65535);
     let stepped = core.step(&[0], &mut []).is_ok();
-    let report = Report {
-        cause: Some(Cause::Fault(Fault::PastEnd)),
-        counter: 65535,
-        count: 0,
-    };
     assert_eq!(rt; (loads, resumed, stepped), ((Ok(()), Ok(())), Ok(()), true));
-    assert_eq!(rt; core.report(), Ok(report));
+    assert_eq!(rt;
+        core.report(),
+        stopped(Cause::Fault(Fault::PastEnd), 65535, 0)
+    );
 }
 
 #[test]
 fn ends_are_taken(rt: HostRuntime) {
-    takes_the_ends::<ReorderBuffer>(&rt);
-    takes_the_ends::<BypassBuffer>(&rt);
-    takes_the_ends::<HistoryBuffer>(&rt);
-    takes_the_ends::<FutureFile>(&rt);
+    under_each_scheme!(takes_the_ends(&rt));
 }
 
 // Fills the list so many times.
@@ -249,12 +247,7 @@ fn fill_often<S: Recovery>(
 
 // The one cycle that is left, in which a branch to itself retires and issues.
 fn last_cycle<S: Recovery>(rt: &impl Abort, core: &mut Core<S>, program: &[u32]) {
-    let turn = CycleRecord {
-        retired: Some(0),
-        issued: Some(0),
-        hold: None,
-        cause: None,
-    };
+    let turn = CycleRecord::new(Some(0), Ending::Issued(0));
     let mut records = [FILLER; 3];
     let ran = core.run(program, &mut [], &mut records);
     assert_eq!(rt; (ran, records), (Ok(1), [turn, FILLER, FILLER]));
@@ -286,8 +279,6 @@ fn stretch<S: Recovery + Drop>(rt: &impl Abort) -> Result<(), Fail> {
 
 #[test]
 fn stretches(rt: HostRuntime) -> Result<(), Fail> {
-    stretch::<ReorderBuffer>(&rt)?;
-    stretch::<BypassBuffer>(&rt)?;
-    stretch::<HistoryBuffer>(&rt)?;
-    stretch::<FutureFile>(&rt)
+    under_each_scheme!(stretch(&rt)?);
+    Ok(())
 }

@@ -1,31 +1,12 @@
 // Requests, cuts, amends and images.
-use crate::bench::{BLANK, Setting, started};
-use future::FutureFile;
-use history::HistoryBuffer;
+use crate::bench::{BLANK, EXAMPLE, SETTING, started, stopped, under_each_scheme};
 use isa::fault::{Cause, Fault};
 use isa::refusal::Refusal;
-use pickcore::record::{Hold, Report};
+use pickcore::record::Hold;
 use pickcore::state::Core;
 use recovery::Recovery;
-use reorder::{BypassBuffer, ReorderBuffer};
 use std::process::Abort;
 use std::test::Fail;
-
-// set R1 7; divide R3 R1 R2; add R1 R1 R1; stop
-const EXAMPLE: [u32; 4] = [0x1100_0007, 0x6312_0000, 0x2111_0000, 0];
-
-const SETTING: Setting = Setting {
-    delays: [2, 4, 5, 3],
-    capacity: 4,
-};
-
-fn stopped(cause: Cause, counter: u16, count: u32) -> Result<Report, Refusal> {
-    Ok(Report {
-        cause: Some(cause),
-        counter,
-        count,
-    })
-}
 
 // A cut takes back what is in flight; the mark of a request before it still stands at the next resume.
 fn cut_in_flight<S: Recovery + Drop>(rt: &impl Abort) -> Result<(), Fail> {
@@ -45,10 +26,8 @@ fn cut_in_flight<S: Recovery + Drop>(rt: &impl Abort) -> Result<(), Fail> {
 
 #[test]
 fn cuts(rt: HostRuntime) -> Result<(), Fail> {
-    cut_in_flight::<ReorderBuffer>(&rt)?;
-    cut_in_flight::<BypassBuffer>(&rt)?;
-    cut_in_flight::<HistoryBuffer>(&rt)?;
-    cut_in_flight::<FutureFile>(&rt)
+    under_each_scheme!(cut_in_flight(&rt)?);
+    Ok(())
 }
 
 // A request holds the next instruction until nothing is in flight, and is then no longer marked.
@@ -71,10 +50,8 @@ fn request_in_flight<S: Recovery + Drop>(rt: &impl Abort) -> Result<(), Fail> {
 
 #[test]
 fn requests(rt: HostRuntime) -> Result<(), Fail> {
-    request_in_flight::<ReorderBuffer>(&rt)?;
-    request_in_flight::<BypassBuffer>(&rt)?;
-    request_in_flight::<HistoryBuffer>(&rt)?;
-    request_in_flight::<FutureFile>(&rt)
+    under_each_scheme!(request_in_flight(&rt)?);
+    Ok(())
 }
 
 // A divide by zero is mended by an amend and resumed at the faulting instruction.
@@ -101,10 +78,8 @@ fn mended<S: Recovery + Drop>(rt: &impl Abort) -> Result<(), Fail> {
 
 #[test]
 fn amends(rt: HostRuntime) -> Result<(), Fail> {
-    mended::<ReorderBuffer>(&rt)?;
-    mended::<BypassBuffer>(&rt)?;
-    mended::<HistoryBuffer>(&rt)?;
-    mended::<FutureFile>(&rt)
+    under_each_scheme!(mended(&rt)?);
+    Ok(())
 }
 
 // A core has an image once it is stopped: the words that hold the example's R1, counter, cause and count, and the end
@@ -129,8 +104,6 @@ fn imaged<S: Recovery + Drop>(rt: &impl Abort) -> Result<(), Fail> {
 
 #[test]
 fn images(rt: HostRuntime) -> Result<(), Fail> {
-    imaged::<ReorderBuffer>(&rt)?;
-    imaged::<BypassBuffer>(&rt)?;
-    imaged::<HistoryBuffer>(&rt)?;
-    imaged::<FutureFile>(&rt)
+    under_each_scheme!(imaged(&rt)?);
+    Ok(())
 }
