@@ -1,9 +1,23 @@
 -- Words and their bytes, there and back.
-use Rattle.std.proofs.Common.{◌≡◌, ℕ, ◌+◌, ◌*◌, ◌/◌, ◌%◌, ◌^◌, ◌<◌, ◌≤◌, List, [], ◌∷◌, ◌++◌, length, get_or, drop, sym, refl, ap, ◌∙◌, append_assoc, append-nil, arith}
+use Rattle.std.proofs.Common.{◌≡◌, ℕ, map, suc, ◌+◌, ◌*◌, ◌/◌, ◌%◌, ◌^◌, ◌<◌, ◌≤◌, List, [], ◌∷◌, ◌++◌, length, get_or, drop, sym, refl, ap, ◌∙◌, append_assoc, append-nil, arith}
 use Rattle.std.proofs.lemmas.Nat.{shr-shr}
 use Rattle.std.proofs.lemmas.List.{at_drop_more, at_drop_all}
+use Rattle.std.specs.Int.{from_le_bytes}
+use Rattle.std.specs.Simd.{first_chunks}
+use mir.Syntax.{w32}
 use Rattle.jobfile.specs.Jobs.{Words32}
 use Rattle.jobfile.specs.Bytes.{word_of, words_of, bytes_of, bytes_of_words}
+
+-- the words are the chunks of four bytes
+pub chunks_are_words : (bytes : List ℕ) → map (λ w. from_le_bytes w32 w) (first_chunks 4 (length bytes / 4) bytes) ≡ words_of bytes
+chunks_are_words [] = refl
+chunks_are_words (a ∷ []) = refl
+chunks_are_words (a ∷ (b ∷ [])) = refl
+chunks_are_words (a ∷ (b ∷ (c ∷ []))) = refl
+chunks_are_words (a ∷ (b ∷ (c ∷ (d ∷ rest)))) =
+    let one : length (a ∷ (b ∷ (c ∷ (d ∷ rest)))) / 4 ≡ suc (length rest / 4) = omega arith in
+    ap (λ k. map (λ w. from_le_bytes w32 w) (first_chunks 4 k (a ∷ (b ∷ (c ∷ (d ∷ rest)))))) one
+    ∙ (ap (λ w. w ∷ map (λ w. from_le_bytes w32 w) (first_chunks 4 (length rest / 4) rest)) (omega arith) ∙ ap (λ ws. word_of a b c d ∷ ws) (chunks_are_words rest))
 
 pub length_words : (bytes : List ℕ) → length (words_of bytes) ≡ length bytes / 4
 length_words [] = refl
