@@ -9,10 +9,9 @@ pub struct Reader<'a> {
     ghost counted: { number + length rest.now < 2 ^ 64 },
 }
 
-// A line: its number, what it says without its comment, and the place behind it.
+// A line: its number, and what it says without its comment.
 #[derive(Clone, Copy)]
 pub struct Line<'a> {
     pub number: usize,
     pub code: &'a [u8],
-    pub after: Reader<'a>,
 }
