@@ -23,7 +23,7 @@ impl fmt::Display for Counter {
 }
 
 // What one cycle did: its number, the retired and the issued counter, and the hold.
-#[derive(Clone, Copy)]
+#[derive(Clone, Copy, PartialEq, Eq, Debug)]
 pub struct CycleLine {
     pub number: usize,
     pub cycle: CycleRecord,
@@ -42,7 +42,7 @@ impl fmt::Display for CycleLine {
 }
 
 // Why, where and after how many instructions the core stopped.
-#[derive(Clone, Copy)]
+#[derive(Clone, Copy, PartialEq, Eq, Debug)]
 pub struct StopLine(pub Report);
 
 impl fmt::Display for StopLine {
@@ -57,7 +57,7 @@ impl fmt::Display for StopLine {
 }
 
 // A call that was declined.
-#[derive(Clone, Copy)]
+#[derive(Clone, Copy, PartialEq, Eq, Debug)]
 pub struct DeclinedLine(pub Refusal);
 
 impl fmt::Display for DeclinedLine {

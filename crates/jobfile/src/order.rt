@@ -4,7 +4,7 @@ ghost use Rattle.std.specs.Prelude.{◌+◌, ◌≤◌, vec_len};
 use crate::setting::Setting;
 
 // The setting of a core, a program, its data words, and how many cycles to run.
-#[derive(Drop)]
+#[derive(PartialEq, Eq, Debug, Drop)]
 pub struct Job {
     pub setting: Setting,
     pub program: Vec<u32>,

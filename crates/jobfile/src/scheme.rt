@@ -30,7 +30,7 @@ impl From<Scheme> for u32 {
 impl TryFrom<u32> for Scheme {
     type Error = UnknownScheme;
 
-    ghost try_from_gives = { λ number answer. MatchResult answer (λ scheme. scheme_at number ≡ Some scheme) (λ unknown. scheme_at number ≡ None) };
+    ghost try_from_gives = { λ number answer. MatchResult answer (λ scheme. scheme_at number ≡ Some scheme) (λ unknown. (scheme_at number ≡ None) × (unknown.0 ≡ number)) };
 
     fn try_from(number: u32) -> Result<Scheme, UnknownScheme> {
         match number {
