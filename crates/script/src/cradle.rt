@@ -14,7 +14,7 @@ use std::alloc::Global;
 
 // The scanner that starts the job, the spare that takes it over, the program and its data words, and after how many
 // cycles the scanner is interrupted.
-#[derive(Drop)]
+#[derive(PartialEq, Eq, Debug, Drop)]
 pub struct Move {
     pub scanner: Setting,
     pub spare: Setting,

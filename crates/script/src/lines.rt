@@ -19,8 +19,8 @@ impl<'a> Reader<'a> {
         }
     }
 
-    // The next line that says something; at the end an empty one, with the number behind the last line: to a head, which
-    // wants so many lines, that line is not right either. So it is no `Iterator`.
+    // The next line that says something; at the end an empty one, with the number behind the last line.
+    // No `Iterator`: a head asks for the line at the end too, and names it in its error.
     pub(crate) fn next_line(&mut self) -> Line<'a>
         ensures line { found result self.new ≡ next_line self.old.number (lines_of self.old.rest.now) }
         ensures some { 0 < length result.code.now → 0 < length (words_in result.code.now) }

@@ -2,7 +2,7 @@
 ghost use Rattle.std.specs.Prelude.{◌+◌, ◌^◌, ◌<◌, length};
 
 // What is left of a text, and the number of its first line.
-#[derive(Clone, Copy)]
+#[derive(Clone, Copy, PartialEq, Eq, Debug)]
 pub struct Reader<'a> {
     pub rest: &'a [u8],
     pub number: usize,
@@ -10,7 +10,7 @@ pub struct Reader<'a> {
 }
 
 // A line: its number, and what it says without its comment.
-#[derive(Clone, Copy)]
+#[derive(Clone, Copy, PartialEq, Eq, Debug)]
 pub struct Line<'a> {
     pub number: usize,
     pub code: &'a [u8],
