@@ -79,8 +79,8 @@ fn run_on<S: Recovery + Drop>(alloc: Global, job: Job) -> Result<String, AllocEr
     Ok(text)
 }
 
-// Runs a job under its scheme. Each arm is another type, and so is one of `deskrun`: a trait for what to run over all
-// schemes would be longer than the two matches.
+// Runs a job under its scheme.
+// A match: each arm is another type, and a trait for what is run over any scheme would be longer than this and `deskrun`'s.
 fn run_job(alloc: Global, job: Job) -> Result<String, AllocError>
     ensures { IfOk result (λ s. PrintsJob (held job) (string_bytes s)) }
 {

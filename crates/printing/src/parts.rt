@@ -26,7 +26,7 @@ impl fmt::Display for Declined {
 }
 
 // What one cycle did: the retired and the issued counter, the hold and the cause.
-#[derive(Clone, Copy)]
+#[derive(Clone, Copy, PartialEq, Eq, Debug)]
 pub struct Cycle(pub CycleRecord);
 
 impl fmt::Display for Cycle {
@@ -42,7 +42,7 @@ impl fmt::Display for Cycle {
 }
 
 // Some words, each behind a space.
-#[derive(Clone, Copy)]
+#[derive(Clone, Copy, PartialEq, Eq, Debug)]
 pub struct Words<'a>(pub &'a [u32]);
 
 impl fmt::Display for Words<'_> {
