@@ -1,5 +1,5 @@
 -- The calls that were played, as the text tells them.
-use Rattle.std.proofs.Common.{◌≡◌, ℕ, ◌*◌, List, [], ◌∷◌, ◌++◌, length, take, drop, IfOk, Ok, Err, Option, Result, sym, refl, ap, ◌∙◌, subst, append-nil, arith, length-append}
+use Rattle.std.proofs.Common.{◌≡◌, ℕ, ◌*◌, List, [], ◌∷◌, ◌++◌, length, take, drop, Ok, Option, sym, refl, ap, ◌∙◌, subst, append-nil, arith, length-append}
 use Rattle.std.proofs.lemmas.List.{take_at, drop_all}
 use Rattle.isa.specs.declared.refusal.Refusal.{Refusal}
 use Rattle.recovery.specs.declared.Timing.{Timing}
@@ -15,10 +15,6 @@ use Rattle.jobs.specs.Play.{Played, nothing, further}
 use Rattle.jobs.specs.Precision.{loads_to, Precisely}
 use Rattle.printing.specs.Lines.{load_line, totals_line}
 use Rattle.deskrun.specs.Desk.{cycles_asked, copies_asked, answers_text, Tells, TellsOn}
-
-pub made_so : {X Y : Type 0} (r : Result X Y) (P Q : X → Type 0) → ((x : X) → P x → Q x) → IfOk r P → IfOk r Q
-made_so (Ok x) P Q f h = f x h
-made_so (Err y) P Q f h = tt
 
 -- there is an answer for each call
 as_many : {k : Timing} {program : List ℕ} {places : List CycleRecord} {space : ℕ} {m : Machine} {ws : List ℕ} {calls : List Call} {given : List Answer} {rows : List CycleRecord} {copied image : List ℕ} {es : List Event} {n : Machine} {vs : List ℕ}

@@ -1,5 +1,5 @@
 -- What the desk prints for a script.
-use Rattle.std.specs.Prelude.{◌≡◌, ℕ, ◌*◌, List, [], ◌∷◌, ◌++◌, map, length, take, drop, Some, None, Ok, Err, sum_by, Option, Result}
+use Rattle.std.specs.Prelude.{◌≡◌, ℕ, ◌*◌, Bool, true, false, List, [], ◌∷◌, ◌++◌, map, length, take, drop, Some, None, Ok, Err, sum_by, count_by, Option, Result}
 use Rattle.isa.specs.declared.refusal.Refusal.{Refusal}
 use Rattle.recovery.specs.declared.Timing.{Timing}
 use Rattle.pickcore.specs.declared.record.CycleRecord.{CycleRecord}
@@ -38,22 +38,22 @@ abbrev pub cycles_asked : List Call → ℕ
 cycles_asked calls = sum_by cycles_in_call calls
 
 -- whether a call asks for the data words, and how many calls do
-abbrev pub copies_in_call : Call → ℕ
-copies_in_call call.Step = 0
-copies_in_call (call.Run limit) = 0
-copies_in_call call.Request = 0
-copies_in_call call.Cut = 0
-copies_in_call (call.Amend r w) = 0
-copies_in_call (call.TakeUp image) = 0
-copies_in_call call.TakeUpImage = 0
-copies_in_call (call.Resume c) = 0
-copies_in_call call.Report = 0
-copies_in_call call.Registers = 0
-copies_in_call call.Image = 0
-copies_in_call call.Data = 1
+abbrev pub asks_data : Call → Bool
+asks_data call.Step = false
+asks_data (call.Run limit) = false
+asks_data call.Request = false
+asks_data call.Cut = false
+asks_data (call.Amend r w) = false
+asks_data (call.TakeUp image) = false
+asks_data call.TakeUpImage = false
+asks_data (call.Resume c) = false
+asks_data call.Report = false
+asks_data call.Registers = false
+asks_data call.Image = false
+asks_data call.Data = true
 
 abbrev pub copies_asked : List Call → ℕ
-copies_asked calls = sum_by copies_in_call calls
+copies_asked calls = count_by asks_data calls
 
 -- the lines of some answers, each with the records and the data words that its call wrote
 abbrev pub answers_text : List Call → List Answer → List CycleRecord → List ℕ → List ℕ

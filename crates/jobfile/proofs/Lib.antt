@@ -1,4 +1,4 @@
-mod Fours
+mod Hexadecimal
 mod There
 pub mod Texts
 mod Back

@@ -1,9 +1,23 @@
 -- Words and their bytes, there and back.
-use Rattle.std.proofs.Common.{◌≡◌, ℕ, ◌+◌, ◌*◌, ◌/◌, ◌%◌, ◌^◌, ◌<◌, ◌≤◌, List, [], ◌∷◌, ◌++◌, length, get_or, drop, sym, refl, ap, ◌∙◌, append_assoc, append-nil, arith}
+use Rattle.std.proofs.Common.{◌≡◌, ℕ, map, suc, ◌+◌, ◌*◌, ◌/◌, ◌%◌, ◌^◌, ◌<◌, List, [], ◌∷◌, ◌++◌, length, refl, ap, ◌∙◌, append_assoc, arith}
 use Rattle.std.proofs.lemmas.Nat.{shr-shr}
-use Rattle.std.proofs.lemmas.List.{at_drop_more, at_drop_all}
+use Rattle.std.proofs.lemmas.Grind.{flat_map-append}
+use Rattle.std.specs.Int.{from_le_bytes}
+use Rattle.std.specs.Simd.{first_chunks}
+use mir.Syntax.{w32}
 use Rattle.jobfile.specs.Jobs.{Words32}
 use Rattle.jobfile.specs.Bytes.{word_of, words_of, bytes_of, bytes_of_words}
+
+-- the words are the chunks of four bytes
+pub chunks_are_words : (bytes : List ℕ) → map (λ w. from_le_bytes w32 w) (first_chunks 4 (length bytes / 4) bytes) ≡ words_of bytes
+chunks_are_words [] = refl
+chunks_are_words (a ∷ []) = refl
+chunks_are_words (a ∷ (b ∷ [])) = refl
+chunks_are_words (a ∷ (b ∷ (c ∷ []))) = refl
+chunks_are_words (a ∷ (b ∷ (c ∷ (d ∷ rest)))) =
+    let one : length (a ∷ (b ∷ (c ∷ (d ∷ rest)))) / 4 ≡ suc (length rest / 4) = omega arith in
+    ap (λ k. map (λ w. from_le_bytes w32 w) (first_chunks 4 k (a ∷ (b ∷ (c ∷ (d ∷ rest)))))) one
+    ∙ (ap (λ w. w ∷ map (λ w. from_le_bytes w32 w) (first_chunks 4 (length rest / 4) rest)) (omega arith) ∙ ap (λ ws. word_of a b c d ∷ ws) (chunks_are_words rest))
 
 pub length_words : (bytes : List ℕ) → length (words_of bytes) ≡ length bytes / 4
 length_words [] = refl
@@ -11,16 +25,6 @@ length_words (a ∷ []) = refl
 length_words (a ∷ (b ∷ [])) = refl
 length_words (a ∷ (b ∷ (c ∷ []))) = refl
 length_words (a ∷ (b ∷ (c ∷ (d ∷ rest)))) = let h = length_words rest in omega arith
-
--- one word more of those to write
-pub push_more : (ws old new all : List ℕ) (i : ℕ) → i < length ws → new ≡ old ++ bytes_of (get_or ws i 0) → old ++ bytes_of_words (drop i ws) ≡ all → new ++ bytes_of_words (drop (i + 1) ws) ≡ all
-push_more ws old new all i h e k =
-    let d = at_drop_more bytes_of_words ws i 0 h in
-    ap (λ x. x ++ bytes_of_words (drop (i + 1) ws)) e
-    ∙ (append_assoc old (bytes_of (get_or ws i 0)) (bytes_of_words (drop (i + 1) ws)) ∙ (sym (ap (λ x. old ++ x) d) ∙ k))
-
-pub push_all : (ws old all : List ℕ) (i : ℕ) → length ws ≤ i → old ++ bytes_of_words (drop i ws) ≡ all → old ≡ all
-push_all ws old all i h k = sym (append-nil old) ∙ (sym (ap (λ x. old ++ x) (at_drop_all bytes_of_words ws i h)) ∙ k)
 
 pub length_bytes : (ws : List ℕ) → length (bytes_of_words ws) ≡ 4 * length ws
 length_bytes [] = refl
@@ -39,15 +43,11 @@ pub words_back : (ws : List ℕ) → Words32 ws → words_of (bytes_of_words ws)
 words_back [] h = refl
 words_back (w ∷ ws) h = ap (λ x. x ∷ words_of (bytes_of_words ws)) (word_back w h.0) ∙ ap (λ x. w ∷ x) (words_back ws h.1)
 
-bytes_append : (xs ys : List ℕ) → bytes_of_words (xs ++ ys) ≡ bytes_of_words xs ++ bytes_of_words ys
-bytes_append [] ys = refl
-bytes_append (x ∷ xs) ys = ap (λ bs. bytes_of x ++ bs) (bytes_append xs ys) ∙ sym (append_assoc (bytes_of x) (bytes_of_words xs) (bytes_of_words ys))
-
 -- five lists of words, written one behind the other
 pub pushed_five : (v w x y z : List ℕ) → bytes_of_words (v ++ (w ++ (x ++ (y ++ z)))) ≡ (((bytes_of_words v ++ bytes_of_words w) ++ bytes_of_words x) ++ bytes_of_words y) ++ bytes_of_words z
 pushed_five v w x y z =
-    bytes_append v (w ++ (x ++ (y ++ z)))
-    ∙ (ap (λ b. bytes_of_words v ++ b) (bytes_append w (x ++ (y ++ z)) ∙ ap (λ b. bytes_of_words w ++ b) (bytes_append x (y ++ z) ∙ ap (λ b. bytes_of_words x ++ b) (bytes_append y z)))
+    flat_map-append bytes_of v (w ++ (x ++ (y ++ z)))
+    ∙ (ap (λ b. bytes_of_words v ++ b) (flat_map-append bytes_of w (x ++ (y ++ z)) ∙ ap (λ b. bytes_of_words w ++ b) (flat_map-append bytes_of x (y ++ z) ∙ ap (λ b. bytes_of_words x ++ b) (flat_map-append bytes_of y z)))
     ∙ simp append_assoc)
 
 pub all_pushed : (a b c d e f v w x y z : List ℕ) → a ≡ [] → b ≡ a ++ bytes_of_words v → c ≡ b ++ bytes_of_words w → d ≡ c ++ bytes_of_words x → e ≡ d ++ bytes_of_words y → f ≡ e ++ bytes_of_words z

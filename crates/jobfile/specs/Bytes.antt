@@ -1,5 +1,6 @@
 -- Words of 32 bits as bytes, the lowest first.
-use Rattle.std.specs.Prelude.{ℕ, ◌+◌, ◌*◌, ◌/◌, ◌%◌, ◌^◌, List, [], ◌∷◌, ◌++◌}
+use Rattle.std.specs.Prelude.{ℕ, ◌+◌, ◌*◌, ◌/◌, ◌%◌, ◌^◌, List, [], ◌∷◌}
+use Rattle.std.specs.List.{flat_map}
 
 abbrev pub word_of : ℕ → ℕ → ℕ → ℕ → ℕ
 word_of a b c d = a + b * 2 ^ 8 + c * 2 ^ 16 + d * 2 ^ 24
@@ -17,5 +18,4 @@ abbrev pub bytes_of : ℕ → List ℕ
 bytes_of w = w % 2 ^ 8 ∷ (w / 2 ^ 8 % 2 ^ 8 ∷ (w / 2 ^ 16 % 2 ^ 8 ∷ (w / 2 ^ 24 % 2 ^ 8 ∷ [])))
 
 abbrev pub bytes_of_words : List ℕ → List ℕ
-bytes_of_words [] = []
-bytes_of_words (w ∷ ws) = bytes_of w ++ bytes_of_words ws
+bytes_of_words ws = flat_map bytes_of ws

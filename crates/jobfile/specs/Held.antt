@@ -5,7 +5,7 @@ use Rattle.jobfile.specs.declared.order.Job.{Job}
 use Rattle.jobfile.specs.Jobs.{Order}
 
 abbrev pub held : Job → Order
-held j = record { scheme = j.scheme; delays = j.delays; capacity = j.capacity; program = vec_items j.program; words = vec_items j.words; cycles = j.cycles }
+held j = record { scheme = j.setting.scheme; delays = j.setting.delays; capacity = j.setting.capacity; program = vec_items j.program; words = vec_items j.words; cycles = j.cycles }
 
 abbrev pub held_in : Option Job → Option Order
 held_in o = option_map held o

@@ -6,3 +6,4 @@ pub mod job;
 pub mod lines;
 pub mod order;
 pub mod scheme;
+pub mod setting;

@@ -1,15 +1,12 @@
 // A job that a file can hold.
 ghost use Rattle.std.specs.Prelude.{◌+◌, ◌≤◌, vec_len};
 
-use crate::scheme::Scheme;
-use isa::unit::UNITS;
+use crate::setting::Setting;
 
-// The scheme, the setting of a core, a program, its data words, and how many cycles to run.
-#[derive(Drop)]
+// The setting of a core, a program, its data words, and how many cycles to run.
+#[derive(PartialEq, Eq, Debug, Drop)]
 pub struct Job {
-    pub scheme: Scheme,
-    pub delays: [u32; UNITS],
-    pub capacity: u32,
+    pub setting: Setting,
     pub program: Vec<u32>,
     pub words: Vec<u32>,
     pub cycles: u32,

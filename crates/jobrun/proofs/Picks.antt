@@ -12,6 +12,13 @@ use Rattle.jobfile.specs.Jobs.{Order}
 use Rattle.jobfile.specs.Lines.{declined_line}
 use Rattle.jobrun.specs.Runs.{refused, started, PrintsBy, cycle_lines, last_line}
 
+-- an order with other lists
+abbrev pub with_lists : Order → List ℕ → List ℕ → Order
+with_lists o ps ws = record { scheme = o.scheme; delays = o.delays; capacity = o.capacity; program = ps; words = ws; cycles = o.cycles }
+
+pub same_lists : (o : Order) (ps ws : List ℕ) → ps ≡ o.program → ws ≡ o.words → with_lists o ps ws ≡ o
+same_lists o ps ws p w = ap (λ xs. with_lists o xs ws) p ∙ ap (with_lists o o.program) w
+
 module _ (o : Order) where
   taken : Ok tt ≡ accepted (refused o) → refused o ≡ None
   taken h = go (refused o) h

@@ -21,10 +21,6 @@ timing_of BypassBuffer = Early
 timing_of HistoryBuffer = Early
 timing_of FutureFile = Early
 
--- a job of the first scheme: what it prints depends on the scheme by its mark alone
-abbrev pub order : List ℕ → ℕ → List ℕ → List ℕ → ℕ → Order
-order delays capacity program words cycles = record { scheme = ReorderBuffer; delays = delays; capacity = capacity; program = program; words = words; cycles = cycles }
-
 -- bytes that hold no job
 abbrev pub input_line : List ℕ
 input_line = codes "input\n"

@@ -8,50 +8,41 @@ ghost use Rattle.jobrun.specs.Runs.{register_line, end_line, plain_lines, plain_
 use isa::fault::Fault;
 use isa::plain::PlainMachine;
 use jobfile::job::read_job;
-use jobfile::lines::{declined_line, push_word};
+use jobfile::lines::{DeclinedLine, HexWord};
 use jobfile::order::Job;
 use pickcore::state::Core;
 use reorder::BypassBuffer;
 use std::alloc::{AllocError, Global};
 
 // Appends the line of a register, if it is not zero.
-fn push_register(
-    heap: Global,
-    text: &mut String,
-    number: usize,
-    word: u32,
-) -> Result<(), AllocError>
+fn push_register(text: &mut String, number: usize, word: u32) -> Result<(), AllocError>
     ensures { is_ok result ≡ true → string_bytes text.new ≡ string_bytes text.old ++ register_line number word }
 {
     if word == 0 {
         return Ok(());
     }
-    let name = format!(in heap; "r{number} ")?;
-    text.push_str(name.as_str())?;
-    push_word(text, word)?;
-    text.push_str("\n")?;
-    Ok(())
+    writeln!(text, "r{number} {}", HexWord(word))
 }
 
-// The lines of the registers that are not zero.
-fn push_registers(heap: Global, text: &mut String, registers: &[u32]) -> Result<(), AllocError>
+// Appends the lines of the registers that are not zero.
+fn push_registers(text: &mut String, registers: &[u32]) -> Result<(), AllocError>
     ensures { is_ok result ≡ true → string_bytes text.new ≡ string_bytes text.old ++ numbered register_line 0 registers.now }
 {
     for (number, word) in registers.iter().enumerate() {
-        push_register(heap, text, number, *word)?;
+        push_register(text, number, *word)?;
     }
     Ok(())
 }
 
-// Where the plain machine stands, or the fault of its next step and where.
-fn end_line(heap: Global, fault: Result<(), Fault>, counter: usize) -> Result<String, AllocError>
-    ensures { IfOk result (λ s. string_bytes s ≡ end_line fault counter) }
+// Appends where the plain machine stands, or the fault of its next step and where.
+fn push_end(text: &mut String, fault: Result<(), Fault>, counter: usize) -> Result<(), AllocError>
+    ensures { is_ok result ≡ true → string_bytes text.new ≡ string_bytes text.old ++ end_line fault counter }
 {
     match fault {
-        Ok(()) => format!(in heap; "at {counter}\n"),
+        Ok(()) => writeln!(text, "at {counter}"),
         Err(fault) => {
             let cause = fault.number();
-            format!(in heap; "fault {cause} {counter}\n")
+            writeln!(text, "fault {cause} {counter}")
         }
     }
 }
@@ -59,7 +50,7 @@ fn end_line(heap: Global, fault: Result<(), Fault>, counter: usize) -> Result<St
 // What the plain machine does with a job: at most as many steps as it has cycles, where it stands then, and its
 // registers.
 fn run_plain(
-    heap: Global,
+    alloc: Global,
     program: &[u32],
     data: &mut [u32],
     most: u32,
@@ -68,39 +59,42 @@ fn run_plain(
 {
     let mut machine = PlainMachine::new();
     let (steps, fault) = machine.run(program, data, most);
-    let mut text = format!(in heap; "steps {steps}\n")?;
-    let end = end_line(heap, fault, machine.counter)?;
-    text.push_str(end.as_str())?;
-    push_registers(heap, &mut text, &machine.registers)?;
+    let mut text = format!(in alloc; "steps {steps}\n")?;
+    push_end(&mut text, fault, machine.counter)?;
+    push_registers(&mut text, &machine.registers)?;
     Ok(text)
 }
 
 // Runs a job that a core would load on the plain machine.
-fn plain_job(heap: Global, job: Job) -> Result<String, AllocError>
+fn plain_job(alloc: Global, job: Job) -> Result<String, AllocError>
     ensures { IfOk result (λ s. string_bytes s ≡ plain_by (held job) (refused (held job))) }
 {
     let Job {
-        scheme: _,
-        delays,
-        capacity,
+        setting,
         program,
         mut words,
         cycles,
     } = job;
     let mut core: Core<BypassBuffer> = Core::new();
-    if let Err(refusal) = core.load(delays, capacity, program.len() as u32, words.len() as u32) {
-        return declined_line(heap, refusal);
+    let loaded = core.load(
+        setting.delays,
+        setting.capacity,
+        program.len() as u32,
+        words.len() as u32,
+    );
+    if let Err(refusal) = loaded {
+        return DeclinedLine(refusal).to_string(alloc);
     }
-    run_plain(heap, program.as_slice(), words.as_mut_slice(), cycles)
+    run_plain(alloc, program.as_slice(), words.as_mut_slice(), cycles)
 }
 
 // What `plainrun` prints for its input: `input` and `declined` as `pickrun` does, or the steps that the plain machine
 // took, where it stands or its fault, and the registers that are not zero.
-pub fn plainrun(heap: Global, bytes: &[u8]) -> Result<String, AllocError>
+pub fn plainrun(alloc: Global, bytes: &[u8]) -> Result<String, AllocError>
     ensures { IfOk result (λ s. string_bytes s ≡ plain_text bytes.now) }
 {
-    match read_job(heap, bytes)? {
-        Some(job) => plain_job(heap, job),
-        None => String::from_str(heap, "input\n"),
+    match read_job(alloc, bytes)? {
+        Some(job) => plain_job(alloc, job),
+        None => String::from_str(alloc, "input\n"),
     }
 }

@@ -38,26 +38,26 @@ ok_line name = name ++ codes " ok\n"
 abbrev pub declined_line : List ℕ → ℕ → List ℕ
 declined_line name n = name ++ (codes " declined " ++ (decimal n ++ codes "\n"))
 
--- a call that was declined for a word of an image: the word's index behind the number
-abbrev pub bad_word_line : List ℕ → ℕ → List ℕ
-bad_word_line name i = name ++ (codes " declined 13 " ++ (decimal i ++ codes "\n"))
+-- that a call was declined: by its number; the index of a bad word stands behind it, and no other number has one
+abbrev pub declined_text : Refusal → List ℕ
+declined_text refusal.Delay = codes "declined " ++ decimal 1
+declined_text refusal.Capacity = codes "declined " ++ decimal 2
+declined_text refusal.Program = codes "declined " ++ decimal 3
+declined_text refusal.Data = codes "declined " ++ decimal 4
+declined_text refusal.Stopped = codes "declined " ++ decimal 5
+declined_text refusal.Running = codes "declined " ++ decimal 6
+declined_text refusal.Register = codes "declined " ++ decimal 7
+declined_text refusal.Counter = codes "declined " ++ decimal 8
+declined_text refusal.Length = codes "declined " ++ decimal 9
+declined_text refusal.Stretch = codes "declined " ++ decimal 10
+declined_text refusal.Buffer = codes "declined " ++ decimal 11
+declined_text refusal.ImageLength = codes "declined " ++ decimal 12
+declined_text (refusal.ImageWord i) = codes "declined " ++ (decimal 13 ++ (codes " " ++ decimal i))
+declined_text refusal.NotAnInstruction = codes "declined " ++ decimal 14
 
--- a call that was declined; the index of a bad word stands behind the number, and no other number has one
+-- a call that was declined
 abbrev pub refused_line : List ℕ → Refusal → List ℕ
-refused_line name refusal.Delay = declined_line name 1
-refused_line name refusal.Capacity = declined_line name 2
-refused_line name refusal.Program = declined_line name 3
-refused_line name refusal.Data = declined_line name 4
-refused_line name refusal.Stopped = declined_line name 5
-refused_line name refusal.Running = declined_line name 6
-refused_line name refusal.Register = declined_line name 7
-refused_line name refusal.Counter = declined_line name 8
-refused_line name refusal.Length = declined_line name 9
-refused_line name refusal.Stretch = declined_line name 10
-refused_line name refusal.Buffer = declined_line name 11
-refused_line name refusal.ImageLength = declined_line name 12
-refused_line name (refusal.ImageWord i) = bad_word_line name i
-refused_line name refusal.NotAnInstruction = declined_line name 14
+refused_line name x = name ++ (codes " " ++ (declined_text x ++ codes "\n"))
 
 -- a cycle: the retired and the issued counter, the hold or 0, and the cause or 0
 abbrev pub record_text : CycleRecord → List ℕ
@@ -87,9 +87,13 @@ report_line name r = name ++ (codes " " ++ (decimal (cause_or_0 r.cause) ++ (cod
 abbrev pub spaced_word : ℕ → List ℕ
 spaced_word w = codes " " ++ hex_word w
 
+-- some words, each behind a space
+abbrev pub words_text : List ℕ → List ℕ
+words_text ws = flat_map spaced_word ws
+
 -- a name and some words
 abbrev pub words_line : List ℕ → List ℕ → List ℕ
-words_line name ws = name ++ (flat_map spaced_word ws ++ codes "\n")
+words_line name ws = name ++ (words_text ws ++ codes "\n")
 
 -- the registers, or the number that they were declined with; 0 stands for none
 abbrev pub registers_line : List ℕ → List ℕ → ℕ → List ℕ

@@ -4,6 +4,7 @@ ghost use Rattle.printing.specs.Lines.{call_name};
 
 use jobs::call::Call;
 
+// A word and no `Display`: `Call` is a type of `jobs`, so that would be a wrapper round this same match.
 pub(crate) fn call_name(call: &Call) -> &'static str
     ensures { result.now ≡ call_name call.now }
 {

@@ -3,22 +3,11 @@ ghost use Rattle.std.specs.Prelude.{◌≡◌, true, ◌++◌, is_ok, string_byt
 ghost use Rattle.printing.specs.Lines.{device_name, refused_line, stop_line, count_line, plain_line};
 
 use crate::device::Device;
-use crate::parts::{push_count, push_refused};
+use crate::parts::Declined;
 use isa::fault::cause_number;
 use isa::refusal::Refusal;
 use pickcore::record::Report;
 use std::alloc::AllocError;
-
-impl Device {
-    pub(crate) fn name(self) -> &'static str
-        ensures { result.now ≡ device_name self }
-    {
-        match self {
-            Device::Scanner => "scanner",
-            Device::Spare => "spare",
-        }
-    }
-}
 
 // Appends that a core of the cradle declined its load.
 pub fn push_device_declined(
@@ -28,7 +17,7 @@ pub fn push_device_declined(
 ) -> Result<(), AllocError>
     ensures { is_ok result ≡ true → string_bytes text.new ≡ string_bytes text.old ++ refused_line (device_name device) refusal }
 {
-    push_refused(text, device.name(), refusal)
+    writeln!(text, "{device} {}", Declined(refusal))
 }
 
 // Appends why, where and after how many instructions and cycles a core of the cradle stopped.
@@ -40,31 +29,26 @@ pub fn push_stop(
 ) -> Result<(), AllocError>
     ensures { is_ok result ≡ true → string_bytes text.new ≡ string_bytes text.old ++ stop_line device report cycles }
 {
-    let name = device.name();
     let cause = cause_number(report.cause);
     let counter = report.counter;
     let count = report.count;
-    let line = format!(in *text.allocator();
-        "{name} stop {cause} {counter} {count} cycles {cycles}\n"
-    )?;
-    text.push_str(line.as_str())
+    writeln!(
+        text,
+        "{device} stop {cause} {counter} {count} cycles {cycles}"
+    )
 }
 
 // Appends the instructions that both cores ran.
 pub fn push_instructions(text: &mut String, total: u64) -> Result<(), AllocError>
     ensures { is_ok result ≡ true → string_bytes text.new ≡ string_bytes text.old ++ count_line (codes "instructions") total }
 {
-    push_count(text, "instructions", total)
+    writeln!(text, "instructions {total}")
 }
 
 // Appends the instructions that the plain machine ran, and whether it agrees.
 pub fn push_plain(text: &mut String, total: u64, agrees: bool) -> Result<(), AllocError>
     ensures { is_ok result ≡ true → string_bytes text.new ≡ string_bytes text.old ++ plain_line total agrees }
 {
-    let line = if agrees {
-        format!(in *text.allocator(); "plain {total} agrees\n")?
-    } else {
-        format!(in *text.allocator(); "plain {total} differs\n")?
-    };
-    text.push_str(line.as_str())
+    let verdict = if agrees { "agrees" } else { "differs" };
+    writeln!(text, "plain {total} {verdict}")
 }

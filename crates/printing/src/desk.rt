@@ -2,7 +2,7 @@
 ghost use Rattle.std.specs.Prelude.{◌≡◌, true, ◌++◌, is_ok, string_bytes};
 ghost use Rattle.printing.specs.Lines.{load_line, input_line, totals_line};
 
-use crate::parts::{push_count, push_ok, push_refused};
+use crate::parts::Declined;
 use isa::refusal::Refusal;
 use std::alloc::AllocError;
 
@@ -11,8 +11,8 @@ pub fn push_load(text: &mut String, answer: Result<(), Refusal>) -> Result<(), A
     ensures { is_ok result ≡ true → string_bytes text.new ≡ string_bytes text.old ++ load_line answer }
 {
     match answer {
-        Ok(()) => push_ok(text, "load"),
-        Err(refusal) => push_refused(text, "load", refusal),
+        Ok(()) => writeln!(text, "load ok"),
+        Err(refusal) => writeln!(text, "load {}", Declined(refusal)),
     }
 }
 
@@ -20,7 +20,7 @@ pub fn push_load(text: &mut String, answer: Result<(), Refusal>) -> Result<(), A
 pub fn push_input(text: &mut String, line: usize) -> Result<(), AllocError>
     ensures { is_ok result ≡ true → string_bytes text.new ≡ string_bytes text.old ++ input_line line }
 {
-    push_count(text, "input", line as u64)
+    writeln!(text, "input {line}")
 }
 
 // Appends how many reports there were, and over all of them the instructions and the cycles.
@@ -32,8 +32,8 @@ pub fn push_totals(
 ) -> Result<(), AllocError>
     ensures { is_ok result ≡ true → string_bytes text.new ≡ string_bytes text.old ++ totals_line reports instructions cycles }
 {
-    let line = format!(in *text.allocator();
-        "reports {reports} instructions {instructions} cycles {cycles}\n"
-    )?;
-    text.push_str(line.as_str())
+    writeln!(
+        text,
+        "reports {reports} instructions {instructions} cycles {cycles}"
+    )
 }

@@ -1,6 +1,10 @@
 -- The calls of a script, read line by line.
-use Rattle.std.proofs.Common.{◌≡◌, ℕ, ◌+◌, ◌<◌, ◌≤◌, List, [], ◌∷◌, ◌++◌, length, Some, None, Ok, Err, Result, sym, refl, ap, ◌∙◌, append_assoc, append-nil, arith}
+use Rattle.std.proofs.Common.{◌≡◌, ℕ, ◌+◌, ◌<◌, ◌≤◌, List, [], ◌∷◌, ◌++◌, length, Some, None, Ok, Err, Option, Result, sym, refl, ap, ◌∙◌, subst, append_assoc, append-nil, arith}
 use Rattle.std.proofs.lemmas.List.{nil_from_length}
+use Rattle.std.specs.Result.{IsErrAnd}
+use Rattle.script.specs.declared.error.ReadError.{ReadError}
+use Rattle.script.specs.declared.error.ReadError.TheVariants as error
+use Rattle.script.specs.Told.{Says, Reads}
 use Rattle.script.specs.Tokens.{words_of}
 use Rattle.script.specs.Found.{Found, found_at, next_line}
 use Rattle.script.specs.Calls.{Asked, call_of, with_call, calls_from, calls_of}
@@ -89,3 +93,13 @@ pub calls_end : (f : Found) (before : List Asked) → length f.words ≡ 0 → l
 calls_end f before h k =
     sym (ap (λ ws. behind before (calls_from f.number ws (calls_of f.next f.rest))) (nil_from_length f.words h)
     ∙ (ap (λ ls. behind before (calls_of f.next ls)) (nil_from_length f.rest k) ∙ ap Ok (append-nil before)))
+
+-- a text whose first line that is not right is one that does not say what it should
+pub wrong_line : {A B C D : Type 0} (told : A → B) (reads : C → D) (n : ℕ) (says : Option B) (holds : Result D ℕ) (e : ReadError) (r : Result C ReadError) → Says told n says (Err e) → IsErrAnd r (λ x. x ≡ e) → (says ≡ None → Err n ≡ holds)
+    → Reads reads holds r
+wrong_line told reads n says holds e (Ok x) s i k = absurd i
+wrong_line told reads n says holds e (Err x) s i k = subst (λ y. Reads reads holds (Err y)) (sym i) (go e s)
+  where
+    go : (e : ReadError) → Says told n says (Err e) → Reads reads holds (Err e)
+    go (error.Line m) s = ap Err s.1 ∙ k s.0
+    go error.OutOfMemory s = tt

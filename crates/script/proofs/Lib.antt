@@ -1,6 +1,6 @@
 mod Scans
+mod Letters
 mod Pieces
 mod Values
 mod Spoken
 mod Asks
-mod Heads

@@ -2,8 +2,7 @@
 use Rattle.std.proofs.Common.{◌≡◌, ℕ, ◌<◌, ◌≤◌, Bool, true, false, cond, not, List, [], ◌∷◌, length, drop, sym, refl, ap, ◌∙◌, arith, length-drop}
 use Rattle.std.proofs.lemmas.List.{nil_from_length}
 use Rattle.std.proofs.lemmas.Bool.{cond-true, cond-false, cond_both, not-true, not-false}
-use Rattle.script.specs.declared.stop.Stop.TheVariants.{Newline, Blank, Word}
-use Rattle.script.specs.Tokens.{newline, blank, until, onward, in_front, pieces, not_empty, lines_of, words_in, stops}
+use Rattle.script.specs.Tokens.{newline, blank, inked, until, onward, in_front, pieces, not_empty, lines_of, words_in}
 
 pub onward_length : (stop : ℕ → Bool) (xs : List ℕ) → length (onward stop xs) ≤ length xs
 onward_length stop [] = omega arith
@@ -19,10 +18,10 @@ first_piece ends x (y ∷ ys) =
     [ true ↦ refl | false ↦ ap (in_front x) h ]
 
 -- blanks in front are no part of a word
-pub skip_blanks : (xs : List ℕ) → words_in (onward (stops Word) xs) ≡ words_in xs
+pub skip_blanks : (xs : List ℕ) → words_in (onward inked xs) ≡ words_in xs
 skip_blanks [] = refl
 skip_blanks (x ∷ xs) =
-    cond_both (not (blank x)) (x ∷ xs) (onward (stops Word) xs) (λ ys. words_in ys ≡ words_in (x ∷ xs)) (λ e. refl)
+    cond_both (not (blank x)) (x ∷ xs) (onward inked xs) (λ ys. words_in ys ≡ words_in (x ∷ xs)) (λ e. refl)
     (λ e. skip_blanks xs ∙ sym (ap not_empty (cond-true (blank x) ([] ∷ pieces blank xs) (in_front x (pieces blank xs)) (not-false (blank x) e))))
 
 -- the blank that ends a word is no part of the next
@@ -42,21 +41,21 @@ word_here x xs e =
 
 -- the first word, and how much is left behind it
 abbrev pub FirstWord : List ℕ → Type 0
-FirstWord xs = (words_in xs ≡ until (stops Blank) xs ∷ words_in (onward (stops Blank) xs)) × (length (onward (stops Blank) xs) < length xs)
+FirstWord xs = (words_in xs ≡ until blank xs ∷ words_in (onward blank xs)) × (length (onward blank xs) < length xs)
 
-pub first_word : (xs : List ℕ) → 0 < length (onward (stops Word) xs) → FirstWord (onward (stops Word) xs)
+pub first_word : (xs : List ℕ) → 0 < length (onward inked xs) → FirstWord (onward inked xs)
 first_word [] = λ h. absurd (omega arith)
 first_word (x ∷ xs) =
-    cond_both (not (blank x)) (x ∷ xs) (onward (stops Word) xs) (λ ys. 0 < length ys → FirstWord ys)
+    cond_both (not (blank x)) (x ∷ xs) (onward inked xs) (λ ys. 0 < length ys → FirstWord ys)
     (λ e h. let b = not-true (blank x) e in
-    (word_here x xs b, let o : onward (stops Blank) (x ∷ xs) ≡ onward (stops Blank) xs = cond-false (blank x) (x ∷ xs) (onward blank xs) b in omega (arith, ap length o, onward_length (stops Blank) xs)))
+    (word_here x xs b, let o : onward blank (x ∷ xs) ≡ onward blank xs = cond-false (blank x) (x ∷ xs) (onward blank xs) b in omega (arith, ap length o, onward_length blank xs)))
     (λ e. first_word xs)
 
 -- the first line, and how much is left behind it
 abbrev pub FirstLine : List ℕ → List ℕ → List ℕ → Type 0
 FirstLine xs line rest = (lines_of xs ≡ line ∷ lines_of (drop 1 rest)) × (length (drop 1 rest) < length xs)
 
-pub first_line : (xs line rest : List ℕ) → 0 < length xs → line ≡ until (stops Newline) xs → rest ≡ onward (stops Newline) xs → FirstLine xs line rest
+pub first_line : (xs line rest : List ℕ) → 0 < length xs → line ≡ until newline xs → rest ≡ onward newline xs → FirstLine xs line rest
 first_line [] line rest h e k = absurd (omega arith)
 first_line (x ∷ xs) line rest h e k = (
   first_piece newline x xs ∙ (ap (λ l. l ∷ lines_of (drop 1 (onward newline (x ∷ xs)))) (sym e) ∙ ap (λ r. line ∷ lines_of (drop 1 r)) (sym k)),

@@ -1,36 +1,34 @@
 -- Scanning a list to the first byte that stops.
-use Rattle.std.proofs.Common.{◌≡◌, ℕ, ◌+◌, ◌<◌, ◌≤◌, Bool, true, false, List, [], ◌∷◌, ◌++◌, length, get_or, take, drop, sym, refl, ap, ◌∙◌, append_assoc, append-nil, arith}
-use Rattle.std.proofs.lemmas.List.{at_drop_more, at_drop_all, take_more, drop_more, drop_all}
+use Rattle.std.proofs.Common.{◌≡◌, ℕ, ◌<◌, Bool, true, false, List, [], ◌∷◌, length, get_or, take, drop, Some, None, Option, sym, refl, ap, ◌∙◌, arith, suc, zero}
+use Rattle.std.specs.Option.{MatchOption, unwrap_or}
+use Rattle.std.specs.List.{AllWithin, HoldsAt}
 use Rattle.std.proofs.lemmas.Bool.{cond-true, cond-false}
+use Rattle.std.proofs.lemmas.List.{take_all, drop_all}
 use Rattle.script.specs.Tokens.{until, onward}
 
--- the first i bytes do not stop
-abbrev pub Passed : (ℕ → Bool) → List ℕ → ℕ → Type 0
-Passed stop xs i = (until stop xs ≡ take i xs ++ until stop (drop i xs)) × (onward stop xs ≡ onward stop (drop i xs)) × (i ≤ length xs)
+-- how a list is split at i
+abbrev pub SplitAt : (ℕ → Bool) → List ℕ → ℕ → Type 0
+SplitAt stop xs i = (take i xs ≡ until stop xs) × (drop i xs ≡ onward stop xs)
 
-pub passed_none : (stop : ℕ → Bool) (xs : List ℕ) → Passed stop xs 0
-passed_none stop xs = (refl, refl, omega arith)
+none_stops : (stop : ℕ → Bool) (xs : List ℕ) → ((k : ℕ) → k < length xs → stop (get_or xs k 0) ≡ false) → (until stop xs ≡ xs) × (onward stop xs ≡ [])
+none_stops stop [] passed = (refl, refl)
+none_stops stop (x ∷ xs) passed =
+    let h = none_stops stop xs (λ k l. passed (suc k) (omega arith)) in
+    let e = passed 0 (omega arith) in
+    (cond-false (stop x) [] (x ∷ until stop xs) e ∙ ap (λ ys. x ∷ ys) h.0, cond-false (stop x) (x ∷ xs) (onward stop xs) e ∙ h.1)
 
-pub passed_more : (stop : ℕ → Bool) (xs : List ℕ) (i : ℕ) → i < length xs → stop (get_or xs i 0) ≡ false → Passed stop xs i → Passed stop xs (i + 1)
-passed_more stop xs i h e p =
-    let x = get_or xs i 0 in
-    let rest = drop (i + 1) xs in (
-      p.0 ∙ (ap (λ y. take i xs ++ y) (at_drop_more (until stop) xs i 0 h ∙ cond-false (stop x) [] (x ∷ until stop rest) e)
-          ∙ (sym (append_assoc (take i xs) (x ∷ []) (until stop rest)) ∙ ap (λ y. y ++ until stop rest) (sym (take_more xs i 0 h)))),
-      p.1 ∙ (at_drop_more (onward stop) xs i 0 h ∙ cond-false (stop x) (x ∷ rest) (onward stop rest) e),
-      omega arith,
-    )
+first_stops : (stop : ℕ → Bool) (xs : List ℕ) (i : ℕ) → i < length xs → stop (get_or xs i 0) ≡ true → ((k : ℕ) → k < i → stop (get_or xs k 0) ≡ false) → SplitAt stop xs i
+first_stops stop [] i l stops passed = absurd (omega arith)
+first_stops stop (x ∷ xs) zero l stops passed = (sym (cond-true (stop x) [] (x ∷ until stop xs) stops), sym (cond-true (stop x) (x ∷ xs) (onward stop xs) stops))
+first_stops stop (x ∷ xs) (suc i) l stops passed =
+    let h = first_stops stop xs i (omega arith) stops (λ k m. passed (suc k) (omega arith)) in
+    let e = passed 0 (omega arith) in
+    (ap (λ ys. x ∷ ys) h.0 ∙ sym (cond-false (stop x) [] (x ∷ until stop xs) e), h.1 ∙ sym (cond-false (stop x) (x ∷ xs) (onward stop xs) e))
 
-pub stopped : (stop : ℕ → Bool) (xs : List ℕ) (i : ℕ) → i < length xs → stop (get_or xs i 0) ≡ true → Passed stop xs i → (take i xs ≡ until stop xs) × (drop i xs ≡ onward stop xs)
-stopped stop xs i h e p =
-    let x = get_or xs i 0 in
-    let rest = drop (i + 1) xs in (
-      sym (p.0 ∙ (ap (λ y. take i xs ++ y) (at_drop_more (until stop) xs i 0 h ∙ cond-true (stop x) [] (x ∷ until stop rest) e) ∙ append-nil (take i xs))),
-      drop_more xs i 0 h ∙ sym (p.1 ∙ (at_drop_more (onward stop) xs i 0 h ∙ cond-true (stop x) (x ∷ rest) (onward stop rest) e)),
-    )
-
-pub passed_all : (stop : ℕ → Bool) (xs : List ℕ) (i : ℕ) → length xs ≤ i → Passed stop xs i → (take i xs ≡ until stop xs) × (drop i xs ≡ onward stop xs)
-passed_all stop xs i h p = (
-  sym (p.0 ∙ (ap (λ y. take i xs ++ y) (at_drop_all (until stop) xs i h) ∙ append-nil (take i xs))),
-  drop_all i xs h ∙ sym (p.1 ∙ at_drop_all (onward stop) xs i h),
-)
+-- where the first byte that stops was looked for, and the whole list is taken where there is none
+pub split_first : (stop : ℕ → Bool) (xs : List ℕ) (r : Option ℕ) → MatchOption r (AllWithin (λ b. stop b ≡ false) xs 0 (length xs)) (λ i. (i < length xs) × HoldsAt (λ b. stop b ≡ true) xs i × AllWithin (λ b. stop b ≡ false) xs 0 i)
+    → SplitAt stop xs (unwrap_or r (length xs))
+split_first stop xs None h =
+    let n = none_stops stop xs (λ k l. h k 0 (omega arith) l) in
+    (take_all (length xs) xs (omega arith) ∙ sym n.0, drop_all (length xs) xs (omega arith) ∙ sym n.1)
+split_first stop xs (Some i) h = first_stops stop xs i h.0 (h.1 0) (λ k l. h.2 k 0 (omega arith) l)

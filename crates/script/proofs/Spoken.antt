@@ -1,11 +1,9 @@
 -- The next line that says something, and the numbers of a line.
-use Rattle.std.proofs.Common.{◌≡◌, ℕ, ◌+◌, ◌<◌, true, false, List, [], ◌∷◌, ◌++◌, length, Some, None, Option, sym, refl, ap, ◌∙◌, append_assoc, arith}
-use Rattle.std.proofs.lemmas.Bool.{cond-true, cond-false}
-use Rattle.std.specs.Str.{bytes_eq}
+use Rattle.std.proofs.Common.{◌≡◌, ℕ, ◌+◌, ◌<◌, List, [], ◌∷◌, ◌++◌, length, Some, None, Option, sym, refl, ap, ◌∙◌, append_assoc, arith}
 use Rattle.std.specs.Option.{option_map}
 use Rattle.script.specs.Tokens.{lines_of, words_in, words_of}
 use Rattle.script.specs.Found.{Found, found_at, next_line}
-use Rattle.script.specs.Numerals.{number_of, with_number, numbers_of, numbers_behind}
+use Rattle.script.specs.Numerals.{number_of, with_number, numbers_of}
 
 -- a line without words is passed
 pub line_passed : (n : ℕ) (text line behind : List ℕ) → lines_of text ≡ line ∷ lines_of behind → words_of line ≡ [] → next_line n (lines_of text) ≡ next_line (n + 1) (lines_of behind)
@@ -38,10 +36,3 @@ word_more old new word rest behind n e k p =
     ap (λ xs. option_map (λ ns. xs ++ ns) (numbers_of (words_in behind))) p
     ∙ (number_more old n (numbers_of (words_in behind))
     ∙ (ap (λ o. option_map (λ ns. old ++ ns) (with_number o (numbers_of (words_in behind)))) k ∙ ap (λ ws. option_map (λ ns. old ++ ns) (numbers_of ws)) (sym e)))
-
--- the first word is the key, or not
-pub key_is : (key line word rest : List ℕ) → words_in line ≡ word ∷ words_in rest → bytes_eq word key ≡ true → numbers_behind key (words_in line) ≡ numbers_of (words_in rest)
-key_is key line word rest e k = ap (numbers_behind key) e ∙ cond-true _ _ _ k
-
-pub key_is_not : (key line word rest : List ℕ) → words_in line ≡ word ∷ words_in rest → bytes_eq word key ≡ false → numbers_behind key (words_in line) ≡ None
-key_is_not key line word rest e k = ap (numbers_behind key) e ∙ cond-false _ _ _ k

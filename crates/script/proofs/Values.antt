@@ -2,7 +2,8 @@
 use Rattle.std.proofs.Common.{◌≡◌, ℕ, ◌+◌, ◌-◌, ◌*◌, ◌^◌, ◌<◌, ◌≤◌, cond, ◌&&◌, eqb, ltb, List, [], ◌∷◌, length, get_or, take, drop, Some, None, sym, refl, ap, ◌∙◌, mul-le-mul_left, arith}
 use Rattle.std.proofs.lemmas.List.{at_drop_more, at_drop_all, take_rest}
 use Rattle.std.proofs.lemmas.Bool.{cond-true, cond-false, cond_both, le-ltb, lt-ltb, eq-eqb, and_from}
-use Rattle.script.specs.Numerals.{digit_value, value_from, fitting, numeral, number_of}
+use Rattle.std.specs.Char.{digit_value}
+use Rattle.script.specs.Numerals.{value_from, fitting, numeral, number_of}
 
 grows : (v base d : ℕ) → 1 ≤ base → v ≤ v * base + d
 grows v base d h = let m : v * 1 ≤ v * base = mul-le-mul_left v h in omega arith

@@ -1,10 +1,7 @@
 -- Numbers as words.
-use Rattle.std.specs.Prelude.{ℕ, ◌+◌, ◌-◌, ◌*◌, ◌^◌, cond, ◌&&◌, List, [], ◌∷◌, Some, None, Option, ◌==◌, nat_lt}
+use Rattle.std.specs.Prelude.{ℕ, ◌+◌, ◌*◌, ◌^◌, cond, ◌&&◌, List, [], ◌∷◌, Some, None, Option, ◌==◌, nat_lt}
+use Rattle.std.specs.Char.{digit_value}
 use Rattle.std.specs.Str.{bytes_eq}
-
--- the value of a digit 0 to 9, A to F or a to f; 16 for any other byte
-abbrev pub digit_value : ℕ → ℕ
-digit_value b = cond (nat_lt b 48) 16 (cond (nat_lt b 58) (b - 48) (cond (nat_lt b 65) 16 (cond (nat_lt b 71) (b - 55) (cond (nat_lt b 97) 16 (cond (nat_lt b 103) (b - 87) 16)))))
 
 -- the value of digits behind those that were worth v, if each is a digit of the base
 abbrev pub value_from : ℕ → ℕ → List ℕ → Option ℕ

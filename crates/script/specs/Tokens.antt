@@ -1,7 +1,5 @@
 -- The lines of a text, and the words of a line.
-use Rattle.std.specs.Prelude.{ℕ, Bool, cond, not, ◌||◌, List, [], ◌∷◌, ◌==◌}
-use Rattle.script.specs.declared.stop.Stop.{Stop}
-use Rattle.script.specs.declared.stop.Stop.TheVariants.{Newline, Hash, Blank, Word}
+use Rattle.std.specs.Prelude.{◌≡◌, ℕ, Bool, cond, not, ◌||◌, List, [], ◌∷◌, ◌==◌}
 
 -- a byte that ends a line
 abbrev pub newline : ℕ → Bool
@@ -15,6 +13,10 @@ hash b = b == 35
 abbrev pub blank : ℕ → Bool
 blank b = b == 32 || (b == 9 || b == 13)
 
+-- a byte of a word
+abbrev pub inked : ℕ → Bool
+inked b = not (blank b)
+
 -- the bytes in front of the first that stops
 abbrev pub until : (ℕ → Bool) → List ℕ → List ℕ
 until stop [] = []
@@ -24,6 +26,10 @@ until stop (b ∷ bs) = cond (stop b) [] (b ∷ until stop bs)
 abbrev pub onward : (ℕ → Bool) → List ℕ → List ℕ
 onward stop [] = []
 onward stop (b ∷ bs) = cond (stop b) (b ∷ bs) (onward stop bs)
+
+-- these are the bytes in front of the first that stops, and those from it on
+abbrev pub SplitsWhere : (ℕ → Bool) → List ℕ → List ℕ → List ℕ → Type 0
+SplitsWhere stop bytes front back = (front ≡ until stop bytes) × (back ≡ onward stop bytes)
 
 -- a byte put in front of the first piece
 abbrev pub in_front : ℕ → List (List ℕ) → List (List ℕ)
@@ -52,10 +58,3 @@ words_in bytes = not_empty (pieces blank bytes)
 -- the words of a line: a comment is none of it
 abbrev pub words_of : List ℕ → List (List ℕ)
 words_of line = words_in (until hash line)
-
--- what the code looks for
-abbrev pub stops : Stop → ℕ → Bool
-stops Newline b = newline b
-stops Hash b = hash b
-stops Blank b = blank b
-stops Word b = not (blank b)

@@ -1,76 +1,35 @@
 // The calls of a script, one on a line.
-ghost use Rattle.std.specs.Prelude.{◌≡◌, IfOk};
+ghost use Rattle.std.specs.Prelude.{◌≡◌};
 ghost use Rattle.std.specs.Option.{option_map};
 ghost use Rattle.script.specs.Tokens.{lines_of, words_in};
-ghost use Rattle.script.specs.Calls.{bare_call, run_call, resume_call, amend_call, call_with, takes_image, call_of, calls_of};
-ghost use Rattle.script.specs.Told.{asked, all_asked};
+ghost use Rattle.script.specs.Calls.{call_with, takes_image, call_of, calls_of};
+ghost use Rattle.script.specs.Told.{Says, Reads, asked, all_asked};
 
-use crate::keyword::{Keyword, is_word};
+use crate::error::ReadError;
+use crate::keyword::Keyword;
 use crate::numbers::numbers_in;
-use crate::reader::Reader;
+use crate::reader::{Line, Reader};
 use crate::tokens::split_word;
 use jobs::call::Call;
-use std::alloc::{AllocError, Global};
+use std::alloc::Global;
 
-// A call that takes no number.
-fn bare(call: Call, numbers: &[u32]) -> Option<Call>
-    ensures { option_map asked result ≡ bare_call (asked call) numbers.now }
-{
-    match numbers {
-        [] => Some(call),
-        _ => None,
-    }
-}
-
-// A run of at most a million cycles.
-fn run(numbers: &[u32]) -> Option<Call>
-    ensures { option_map asked result ≡ run_call numbers.now }
-{
-    match numbers {
-        [most] => {
-            if *most > 1_000_000 {
-                return None;
-            }
-            Some(Call::Run(*most as usize))
-        }
-        _ => None,
-    }
-}
-
-fn resume(numbers: &[u32]) -> Option<Call>
-    ensures { option_map asked result ≡ resume_call numbers.now }
-{
-    match numbers {
-        [counter] => Some(Call::Resume(*counter)),
-        _ => None,
-    }
-}
-
-fn amend(numbers: &[u32]) -> Option<Call>
-    ensures { option_map asked result ≡ amend_call numbers.now }
-{
-    match numbers {
-        [register, word] => Some(Call::Amend(*register, *word)),
-        _ => None,
-    }
-}
-
-// The call of a keyword with the numbers behind it.
+// The call of a keyword with the numbers behind it; a run is of at most a million cycles.
 fn call_with(key: Keyword, numbers: Vec<u32>) -> Option<Call>
     ensures { option_map asked result ≡ call_with key numbers.items }
 {
-    match key {
-        Keyword::Step => bare(Call::Step, numbers.as_slice()),
-        Keyword::Run => run(numbers.as_slice()),
-        Keyword::Request => bare(Call::Request, numbers.as_slice()),
-        Keyword::Cut => bare(Call::Cut, numbers.as_slice()),
-        Keyword::Amend => amend(numbers.as_slice()),
-        Keyword::TakeUp => Some(Call::TakeUp(numbers)),
-        Keyword::Resume => resume(numbers.as_slice()),
-        Keyword::Report => bare(Call::Report, numbers.as_slice()),
-        Keyword::Registers => bare(Call::Registers, numbers.as_slice()),
-        Keyword::Image => bare(Call::Image, numbers.as_slice()),
-        Keyword::Data => bare(Call::Data, numbers.as_slice()),
+    match (key, numbers.as_slice()) {
+        (Keyword::Step, []) => Some(Call::Step),
+        (Keyword::Run, [most]) if *most <= 1_000_000 => Some(Call::Run(*most as usize)),
+        (Keyword::Request, []) => Some(Call::Request),
+        (Keyword::Cut, []) => Some(Call::Cut),
+        (Keyword::Amend, [register, word]) => Some(Call::Amend(*register, *word)),
+        (Keyword::TakeUp, _) => Some(Call::TakeUp(numbers)),
+        (Keyword::Resume, [counter]) => Some(Call::Resume(*counter)),
+        (Keyword::Report, []) => Some(Call::Report),
+        (Keyword::Registers, []) => Some(Call::Registers),
+        (Keyword::Image, []) => Some(Call::Image),
+        (Keyword::Data, []) => Some(Call::Data),
+        _ => None,
     }
 }
 
@@ -80,46 +39,37 @@ fn is_take_up_image(word: &[u8], rest: &[u8]) -> bool
 {
     match split_word(rest) {
         Some((what, behind)) => {
-            is_word(word, b"take-up") && is_word(what, b"image") && split_word(behind).is_none()
+            word == b"take-up".as_slice()
+                && what == b"image".as_slice()
+                && split_word(behind).is_none()
         }
         None => false,
     }
 }
 
-// The call that a line asks for, if it asks for one.
-pub(crate) fn read_call(heap: Global, line: &[u8]) -> Result<Option<Call>, AllocError>
-    ensures { IfOk result (λ o. option_map asked o ≡ call_of (words_in line.now)) }
+// The call that a line asks for.
+pub(crate) fn read_call(alloc: Global, line: Line<'_>) -> Result<Call, ReadError>
+    ensures { Says asked line.entry.number (call_of (words_in line.entry.code.now)) result }
 {
-    let Some((word, rest)) = split_word(line) else {
-        return Ok(None);
-    };
+    let wrong = ReadError::Line(line.number);
+    let (word, rest) = split_word(line.code).ok_or(wrong)?;
     if is_take_up_image(word, rest) {
-        return Ok(Some(Call::TakeUpImage));
+        return Ok(Call::TakeUpImage);
     }
-    let Some(key) = Keyword::from_word(word) else {
-        return Ok(None);
-    };
-    let Some(numbers) = numbers_in(heap, rest)? else {
-        return Ok(None);
-    };
-    Ok(call_with(key, numbers))
+    let key = Keyword::try_from(word).map_err(|_| wrong)?;
+    let numbers = numbers_in(alloc, rest)?.ok_or(wrong)?;
+    call_with(key, numbers).ok_or(wrong)
 }
 
-// The calls from a place on, or the number of the first line that is none.
-pub(crate) fn read_calls(
-    heap: Global,
-    reader: Reader,
-) -> Result<Result<Vec<Call>, usize>, AllocError>
-    ensures { IfOk result (λ x. all_asked x ≡ calls_of reader.entry.number (lines_of reader.entry.rest.now)) }
+// The calls from a place on.
+pub(crate) fn read_calls(alloc: Global, mut reader: Reader<'_>) -> Result<Vec<Call>, ReadError>
+    ensures { Reads all_asked (calls_of reader.entry.number (lines_of reader.entry.rest.now)) result }
 {
-    let mut calls = Vec::new(heap);
+    let mut calls = Vec::new(alloc);
     let mut line = reader.next_line();
     while !line.code.is_empty() {
-        let Some(call) = read_call(heap, line.code)? else {
-            return Ok(Err(line.number));
-        };
-        calls.push(call)?;
-        line = line.after.next_line();
+        calls.push(read_call(alloc, line)?)?;
+        line = reader.next_line();
     }
-    Ok(Ok(calls))
+    Ok(calls)
 }

@@ -1,28 +1,20 @@
 // A job of the cradle: a program, and the two cores that it moves between.
-ghost use Rattle.std.specs.Prelude.{◌≡◌, IfOk};
-ghost use Rattle.std.specs.Option.{option_map};
 ghost use Rattle.script.specs.Tokens.{words_in};
 ghost use Rattle.script.specs.Numerals.{numbers_behind};
-ghost use Rattle.script.specs.Scripts.{setting_in, move_of};
-ghost use Rattle.script.specs.Told.{setting, moved};
+ghost use Rattle.script.specs.Scripts.{setting_in, no_line, move_of};
+ghost use Rattle.script.specs.Told.{Says, Reads, setting, moved};
 
+use crate::error::ReadError;
 use crate::numbers::{number_behind, numbers_behind};
-use crate::reader::Reader;
-use isa::unit::UNITS;
+use crate::reader::{Line, Reader};
+use crate::tokens::split_word;
 use jobfile::scheme::Scheme;
-use std::alloc::{AllocError, Global};
-
-// A core's scheme, the delays of its units, and its capacity.
-#[derive(Clone, Copy)]
-pub struct Setting {
-    pub scheme: Scheme,
-    pub delays: [u32; UNITS],
-    pub capacity: u32,
-}
+use jobfile::setting::Setting;
+use std::alloc::Global;
 
 // The scanner that starts the job, the spare that takes it over, the program and its data words, and after how many
 // cycles the scanner is interrupted.
-#[derive(Drop)]
+#[derive(PartialEq, Eq, Debug, Drop)]
 pub struct Move {
     pub scanner: Setting,
     pub spare: Setting,
@@ -32,60 +24,49 @@ pub struct Move {
 }
 
 // The setting behind a key: scheme, delays and capacity.
-fn setting_line(heap: Global, key: &[u8], line: &[u8]) -> Result<Option<Setting>, AllocError>
-    ensures { IfOk result (λ o. option_map setting o ≡ setting_in (numbers_behind key.now (words_in line.now))) }
+fn setting_line(alloc: Global, key: &[u8], line: Line<'_>) -> Result<Setting, ReadError>
+    ensures { Says setting line.entry.number (setting_in (numbers_behind key.now (words_in line.entry.code.now))) result }
 {
-    let Some(numbers) = numbers_behind(heap, key, line)? else {
-        return Ok(None);
-    };
+    let numbers = numbers_behind(alloc, key, line)?;
     match numbers.as_slice() {
         [scheme, short, multiply, divide, memory, capacity] => {
-            let Some(scheme) = Scheme::from_number(*scheme) else {
-                return Ok(None);
-            };
-            Ok(Some(Setting {
+            let scheme = Scheme::try_from(*scheme).map_err(|_| ReadError::Line(line.number))?;
+            Ok(Setting {
                 scheme,
                 delays: [*short, *multiply, *divide, *memory],
                 capacity: *capacity,
-            }))
+            })
         }
-        _ => Ok(None),
+        _ => Err(ReadError::Line(line.number)),
+    }
+}
+
+// The end of a text, behind the last line that says something.
+fn end_line(line: Line<'_>) -> Result<(), ReadError>
+    ensures { Says (λ end. end) line.entry.number (no_line (words_in line.entry.code.now)) result }
+{
+    match split_word(line.code) {
+        Some(_) => Err(ReadError::Line(line.number)),
+        None => Ok(()),
     }
 }
 
 // The job that a text holds, or the number of the first line that is not right.
-pub fn read_move(heap: Global, text: &[u8]) -> Result<Result<Move, usize>, AllocError>
-    ensures { IfOk result (λ x. moved x ≡ move_of text.now) }
+pub fn read_move(alloc: Global, text: &[u8]) -> Result<Move, ReadError>
+    ensures { Reads moved (move_of text.now) result }
 {
-    let first = Reader::new(text).next_line();
-    let Some(scanner) = setting_line(heap, b"scanner", first.code)? else {
-        return Ok(Err(first.number));
-    };
-    let second = first.after.next_line();
-    let Some(spare) = setting_line(heap, b"spare", second.code)? else {
-        return Ok(Err(second.number));
-    };
-    let third = second.after.next_line();
-    let Some(program) = numbers_behind(heap, b"program", third.code)? else {
-        return Ok(Err(third.number));
-    };
-    let fourth = third.after.next_line();
-    let Some(data) = numbers_behind(heap, b"data", fourth.code)? else {
-        return Ok(Err(fourth.number));
-    };
-    let fifth = fourth.after.next_line();
-    let Some(interrupt) = number_behind(heap, b"interrupt", fifth.code)? else {
-        return Ok(Err(fifth.number));
-    };
-    let last = fifth.after.next_line();
-    if !last.code.is_empty() {
-        return Ok(Err(last.number));
-    }
-    Ok(Ok(Move {
+    let mut reader = Reader::new(text);
+    let scanner = setting_line(alloc, b"scanner", reader.next_line())?;
+    let spare = setting_line(alloc, b"spare", reader.next_line())?;
+    let program = numbers_behind(alloc, b"program", reader.next_line())?;
+    let data = numbers_behind(alloc, b"data", reader.next_line())?;
+    let interrupt = number_behind(alloc, b"interrupt", reader.next_line())?;
+    end_line(reader.next_line())?;
+    Ok(Move {
         scanner,
         spare,
         program,
         data,
         interrupt,
-    }))
+    })
 }

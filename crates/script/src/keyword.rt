@@ -1,9 +1,8 @@
 // The words that a call begins with.
-ghost use Rattle.std.specs.Prelude.{◌≡◌};
-ghost use Rattle.std.specs.Str.{bytes_eq};
+ghost use Rattle.std.specs.Prelude.{◌≡◌, MatchResult, Some, None};
 ghost use Rattle.script.specs.Keywords.{keyword_of};
 
-#[derive(Clone, Copy)]
+#[derive(Clone, Copy, PartialEq, Eq, Debug)]
 pub enum Keyword {
     Step,
     Run,
@@ -18,41 +17,29 @@ pub enum Keyword {
     Data,
 }
 
-// Whether a word is the one that is written.
-pub(crate) fn is_word(word: &[u8], written: &[u8]) -> bool
-    ensures { result ≡ bytes_eq word.now written.now }
-{
-    word == written
-}
+// A word that no call begins with.
+#[derive(Clone, Copy, PartialEq, Eq, Debug)]
+pub struct NoKeyword;
 
-impl Keyword {
-    pub(crate) fn from_word(word: &[u8]) -> Option<Keyword>
-        ensures { result ≡ keyword_of word.now }
-    {
-        if is_word(word, b"step") {
-            Some(Keyword::Step)
-        } else if is_word(word, b"run") {
-            Some(Keyword::Run)
-        } else if is_word(word, b"request") {
-            Some(Keyword::Request)
-        } else if is_word(word, b"cut") {
-            Some(Keyword::Cut)
-        } else if is_word(word, b"amend") {
-            Some(Keyword::Amend)
-        } else if is_word(word, b"take-up") {
-            Some(Keyword::TakeUp)
-        } else if is_word(word, b"resume") {
-            Some(Keyword::Resume)
-        } else if is_word(word, b"report") {
-            Some(Keyword::Report)
-        } else if is_word(word, b"registers") {
-            Some(Keyword::Registers)
-        } else if is_word(word, b"image") {
-            Some(Keyword::Image)
-        } else if is_word(word, b"data") {
-            Some(Keyword::Data)
-        } else {
-            None
+impl TryFrom<&[u8]> for Keyword {
+    type Error = NoKeyword;
+
+    ghost try_from_gives = { λ word answer. MatchResult answer (λ key. keyword_of word.now ≡ Some key) (λ none. keyword_of word.now ≡ None) };
+
+    fn try_from(word: &[u8]) -> Result<Keyword, NoKeyword> {
+        match word {
+            b"step" => Ok(Keyword::Step),
+            b"run" => Ok(Keyword::Run),
+            b"request" => Ok(Keyword::Request),
+            b"cut" => Ok(Keyword::Cut),
+            b"amend" => Ok(Keyword::Amend),
+            b"take-up" => Ok(Keyword::TakeUp),
+            b"resume" => Ok(Keyword::Resume),
+            b"report" => Ok(Keyword::Report),
+            b"registers" => Ok(Keyword::Registers),
+            b"image" => Ok(Keyword::Image),
+            b"data" => Ok(Keyword::Data),
+            _ => Err(NoKeyword),
         }
     }
 }

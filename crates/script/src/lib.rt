@@ -4,11 +4,11 @@
 pub mod calls;
 pub mod cradle;
 pub mod desk;
+pub mod error;
 pub mod examples;
 pub mod keyword;
 pub mod lines;
 pub mod numbers;
 pub mod numeral;
 pub mod reader;
-pub mod stop;
 pub mod tokens;

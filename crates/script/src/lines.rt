@@ -20,32 +20,25 @@ impl<'a> Reader<'a> {
     }
 
     // The next line that says something; at the end an empty one, with the number behind the last line.
-    pub(crate) fn next_line(self) -> Line<'a>
-        ensures line { found result ≡ next_line self.entry.number (lines_of self.entry.rest.now) }
+    // No `Iterator`: a head asks for the line at the end too, and names it in its error.
+    pub(crate) fn next_line(&mut self) -> Line<'a>
+        ensures line { found result self.new ≡ next_line self.old.number (lines_of self.old.rest.now) }
         ensures some { 0 < length result.code.now → 0 < length (words_in result.code.now) }
     {
-        let mut rest = self.rest;
-        let mut number = self.number;
-        while let Some((line, behind)) = split_line(rest) {
+        while let Some((line, behind)) = split_line(self.rest) {
+            let number = self.number;
+            *self = Reader {
+                rest: behind,
+                number: number + 1,
+            };
             let code = said(line);
             if !code.is_empty() {
-                let after = Reader {
-                    rest: behind,
-                    number: number + 1,
-                };
-                return Line {
-                    number,
-                    code,
-                    after,
-                };
+                return Line { number, code };
             }
-            rest = behind;
-            number += 1;
         }
         Line {
-            number,
-            code: rest,
-            after: Reader { rest, number },
+            number: self.number,
+            code: self.rest,
         }
     }
 }

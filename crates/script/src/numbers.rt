@@ -4,17 +4,20 @@ ghost use Rattle.std.specs.Option.{option_map};
 ghost use Rattle.script.specs.Tokens.{words_in};
 ghost use Rattle.script.specs.Numerals.{numbers_of, numbers_behind};
 ghost use Rattle.script.specs.Scripts.{one_number};
+ghost use Rattle.script.specs.Told.{Says};
 
-use crate::keyword::is_word;
+use crate::error::ReadError;
 use crate::numeral::number_of;
+use crate::reader::Line;
 use crate::tokens::split_word;
 use std::alloc::{AllocError, Global};
 
 // The numbers that some bytes hold, if each word is one.
-pub(crate) fn numbers_in(heap: Global, bytes: &[u8]) -> Result<Option<Vec<u32>>, AllocError>
+#[tactic(auto, using(crate::proofs::Spoken::word_more))]
+pub(crate) fn numbers_in(alloc: Global, bytes: &[u8]) -> Result<Option<Vec<u32>>, AllocError>
     ensures { IfOk result (λ o. option_map vec_items o ≡ numbers_of (words_in bytes.now)) }
 {
-    let mut numbers = Vec::new(heap);
+    let mut numbers = Vec::new(alloc);
     let mut rest = bytes;
     while let Some((word, behind)) = split_word(rest) {
         let Some(number) = number_of(word) else {
@@ -26,38 +29,29 @@ pub(crate) fn numbers_in(heap: Global, bytes: &[u8]) -> Result<Option<Vec<u32>>,
     Ok(Some(numbers))
 }
 
-// The numbers behind the line's first word, if that is the key.
+// The numbers behind the line's first word, which is to be the key.
 pub(crate) fn numbers_behind(
-    heap: Global,
+    alloc: Global,
     key: &[u8],
-    line: &[u8],
-) -> Result<Option<Vec<u32>>, AllocError>
-    ensures { IfOk result (λ o. option_map vec_items o ≡ numbers_behind key.now (words_in line.now)) }
+    line: Line<'_>,
+) -> Result<Vec<u32>, ReadError>
+    ensures { Says vec_items line.entry.number (numbers_behind key.now (words_in line.entry.code.now)) result }
 {
-    match split_word(line) {
-        Some((word, rest)) => {
-            if !is_word(word, key) {
-                return Ok(None);
-            }
-            numbers_in(heap, rest)
+    match split_word(line.code) {
+        Some((word, rest)) if word == key => {
+            numbers_in(alloc, rest)?.ok_or(ReadError::Line(line.number))
         }
-        None => Ok(None),
+        _ => Err(ReadError::Line(line.number)),
     }
 }
 
 // The one number behind the key.
-pub(crate) fn number_behind(
-    heap: Global,
-    key: &[u8],
-    line: &[u8],
-) -> Result<Option<u32>, AllocError>
-    ensures { IfOk result (λ o. o ≡ one_number (numbers_behind key.now (words_in line.now))) }
+pub(crate) fn number_behind(alloc: Global, key: &[u8], line: Line<'_>) -> Result<u32, ReadError>
+    ensures { Says (λ n. n) line.entry.number (one_number (numbers_behind key.now (words_in line.entry.code.now))) result }
 {
-    let Some(numbers) = numbers_behind(heap, key, line)? else {
-        return Ok(None);
-    };
+    let numbers = numbers_behind(alloc, key, line)?;
     match numbers.as_slice() {
-        [number] => Ok(Some(*number)),
-        _ => Ok(None),
+        [number] => Ok(*number),
+        _ => Err(ReadError::Line(line.number)),
     }
 }

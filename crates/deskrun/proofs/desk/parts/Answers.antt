@@ -4,6 +4,6 @@ use Rattle.deskrun.proofs.desk.parts.Goals as goal
 
 pub returns : goal.returns
 returns g c = record {
-  front = c.split_at.ensures.front ∙ take_lesser c.args.list.now c.args.many c.min-at.result c.min-at.ensures;
-  back = c.split_at.ensures.back ∙ drop_lesser c.args.list.now c.args.many c.min-at.result c.min-at.ensures;
+  front = c.split_at.ensures.front ∙ take_lesser c.args.list.now c.args.many c.min.result c.min.ensures;
+  back = c.split_at.ensures.back ∙ drop_lesser c.args.list.now c.args.many c.min.result c.min.ensures;
 }

@@ -1,9 +1,12 @@
-use Rattle.std.proofs.Common.{◌≡◌, ◌≤◌, [], ◌∷◌, ◌++◌, length, vec_items, arith, rules, ltb-false}
-use Rattle.jobfile.proofs.Fours.{words_more}
+use Rattle.std.proofs.Common.{◌≡◌, ◌/◌, map, length, IfOk, rules, ◌∙◌}
+use Rattle.std.proofs.lemmas.Result.{IfOk-weaker}
+use Rattle.std.specs.Int.{from_le_bytes}
+use Rattle.std.specs.Simd.{first_chunks}
+use mir.Syntax.{w32}
+use Rattle.jobfile.proofs.There.{chunks_are_words}
 use Rattle.jobfile.proofs.bytes.words_of.Goals as goal
 
-pub loop-rest-preserved : goal.loop-rest-preserved
-loop-rest-preserved c =
-    let h : 4 ≤ length c.loop-rest.rest.now = omega (arith, ltb-false) in
-    let p : vec_items c.push.new.self ≡ vec_items c.loop-rest.words ++ (c.word_of.result ∷ []) = search rules in
-    words_more _ (vec_items c.loop-rest.words) (vec_items c.push.new.self) c.loop-rest.rest.now c.word_of.result h c.loop-rest.invariant c.word_of.ensures p
+pub returns : goal.returns
+returns c =
+    let h : IfOk c.collect.result (λ v. v.items ≡ map (λ w. from_le_bytes w32 w) (first_chunks 4 (length c.args.bytes.now / 4) c.args.bytes.now)) = search rules in
+    IfOk-weaker c.collect.result _ _ (λ v e. e ∙ chunks_are_words c.args.bytes.now) h

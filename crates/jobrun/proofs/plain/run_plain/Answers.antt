@@ -13,7 +13,6 @@ returns c =
     let n = c.run-steps.result.0 in
     let out : Outcome = record { taken = c.run-steps.result.0; last = plain_of c.run-steps.new.self c.run-steps.new.data; fault = c.run-steps.result.1 } in
     let all : out ≡ ran c.args.program.now c.args.most (at_zero c.args.data.now) = c.run-steps.ensures ∙ ap (ran c.args.program.now c.args.most) (c.new-machine.ensures c.args.data.now) in
-    push_then (string_bytes c.in_ok-text.text) (string_bytes c.push_str.new.self) (string_bytes c.push_registers.new.text) ends regs
-    (c.in_ok-push_str.ensures.bytes ∙ ap (λ x. string_bytes c.in_ok-text.text ++ x) (c.as_str.ensures.value ∙ c.in_ok-end.ensures)) (c.in_ok-push_registers.ensures refl)
+    push_then (string_bytes c.in_ok-text.text) (string_bytes c.push_end.new.text) (string_bytes c.push_registers.new.text) ends regs (c.in_ok-push_end.ensures refl) (c.in_ok-push_registers.ensures refl)
     ∙ (ap (λ x. x ++ (ends ++ regs)) c.in_ok-text.ensures.ok
     ∙ (ap (λ x. codes "steps " ++ x) (append_assoc (decimal n) (codes "\n") (ends ++ regs)) ∙ ap plain_lines all))

@@ -6,11 +6,11 @@ use Rattle.script.proofs.Asks.{calls_found, behind, left}
 use Rattle.script.proofs.calls.read_calls.Given as goal
 
 -- the calls so far, and those from this line on; a line that is not empty has words, and behind one without words is none
-abbrev pub invariant-loop-line : goal.invariant-loop-line
-invariant-loop-line l =
-    (behind (map asked (vec_items l.calls)) (calls_found (found l.line)) ≡ calls_of l.reader.number (lines_of l.reader.rest.now))
+abbrev pub invariant-loop-reader : goal.invariant-loop-reader
+invariant-loop-reader l =
+    (behind (map asked (vec_items l.calls)) (calls_found (found l.line l.reader)) ≡ calls_of l.fn.reader.number (lines_of l.fn.reader.rest.now))
     × (0 < length l.line.code.now → 0 < length (words_in l.line.code.now))
-    × (length (words_in l.line.code.now) ≡ 0 → length (lines_of l.line.after.rest.now) ≡ 0)
+    × (length (words_in l.line.code.now) ≡ 0 → length (lines_of l.reader.rest.now) ≡ 0)
 
-abbrev pub decreases-loop-line : goal.decreases-loop-line
-decreases-loop-line l = left (found l.line)
+abbrev pub decreases-loop-reader : goal.decreases-loop-reader
+decreases-loop-reader l = left (found l.line l.reader)

@@ -1,13 +1,14 @@
-use Rattle.std.proofs.Common.{◌≡◌, ◌<◌, length, ap, ◌∙◌, subst, arith}
-use Rattle.script.specs.declared.stop.Stop.TheVariants.{Word, Hash}
-use Rattle.script.specs.Tokens.{words_in, until, onward, stops}
+use Rattle.std.proofs.Common.{◌≡◌, ◌<◌, length, ap, ◌∙◌, subst, arith, rules}
+use Rattle.script.specs.Tokens.{hash, inked, words_in, until, onward}
 use Rattle.script.proofs.Pieces.{skip_blanks, first_word}
 use Rattle.script.proofs.tokens.said.Goals as goal
 
 pub returns : goal.returns
 returns c =
-    let code = until (stops Hash) c.args.line.now in
-    let e : c.split-2.result.1.now ≡ onward (stops Word) code = c.split-2.ensures.back ∙ ap (onward (stops Word)) c.split.ensures.front in
+    let code = until hash c.args.line.now in
+    let uncommented = c.split_where.ensures hash (λ b r p. search rules) in
+    let inked_on = c.split_where-2.ensures inked (λ b r p. search rules) in
+    let e : c.split_where-2.result.1.now ≡ onward inked code = inked_on.1 ∙ ap (onward inked) uncommented.0 in
     let k = skip_blanks code in
     record {
       words = ap words_in e ∙ k;

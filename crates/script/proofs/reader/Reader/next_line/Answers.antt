@@ -6,7 +6,7 @@ use Rattle.script.proofs.reader.Reader.next_line.Goals as goal
 
 pub returns : goal.returns
 returns c = record {
-  line = lines_end c.loop-line.number c.loop-line.rest.now c.in_default.ensures.shorter ∙ c.loop-line.invariant.1;
+  line = lines_end c.loop-line.self.number c.loop-line.self.rest.now c.in_default.ensures.shorter ∙ c.loop-line.invariant;
   some = λ h. absurd (omega (arith, c.in_default.ensures.shorter));
 }
 
@@ -15,14 +15,12 @@ returns-then-not-is_empty c =
     let some : 0 < length c.said-code.result.now = omega (arith, eqb-false _ _ (sym c.if-not-is_empty.ensures)) in
     let words = c.said-code.ensures.some some in
     record {
-      line = line_found c.loop-line.number c.loop-line.rest.now c.in-Some.line.now c.said-code.result.now c.in-Some.behind.now c.in-Some.ensures.line c.said-code.ensures.words words ∙ c.loop-line.invariant.1;
+      line = line_found c.loop-line.self.number c.loop-line.self.rest.now c.in-Some.line.now c.said-code.result.now c.in-Some.behind.now c.in-Some.ensures.line c.said-code.ensures.words words ∙ c.loop-line.invariant;
       some = λ h. omega (arith, words, ap length c.said-code.ensures.words);
     }
 
 pub loop-line-preserved : goal.loop-line-preserved
 loop-line-preserved c =
-    let none : length c.said-code.result.now ≡ 0 = eqb-true _ _ (sym c.if-not-is_empty.ensures) in (
-      omega (arith, c.in-Some.ensures.shorter, c.loop-line.invariant.0),
-      sym (line_passed c.loop-line.number c.loop-line.rest.now c.in-Some.line.now c.in-Some.behind.now c.in-Some.ensures.line (sym c.said-code.ensures.words ∙ no_words c.said-code.result.now none))
-          ∙ c.loop-line.invariant.1,
-    )
+    let none : length c.said-code.result.now ≡ 0 = eqb-true _ _ (sym c.if-not-is_empty.ensures) in
+    sym (line_passed c.loop-line.self.number c.loop-line.self.rest.now c.in-Some.line.now c.in-Some.behind.now c.in-Some.ensures.line (sym c.said-code.ensures.words ∙ no_words c.said-code.result.now none))
+    ∙ c.loop-line.invariant
