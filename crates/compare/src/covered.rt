@@ -1,7 +1,8 @@
 // What was played, counted, so that a comparison that misses a case shows it.
-use crate::jobs::Setting;
 use isa::fault::Cause;
-use pickcore::record::{CycleRecord, hold_number};
+use isa::number::number_or_0;
+use pickcore::record::CycleRecord;
+use pickcore::setup::Setup;
 use std::fmt;
 
 #[derive(Clone, Copy)]
@@ -124,7 +125,7 @@ impl Covered {
 
     pub fn cycle(&mut self, record: CycleRecord) {
         self.cycles.add_one();
-        count(&mut self.holds, hold_number(record.hold));
+        count(&mut self.holds, number_or_0(record.hold));
     }
 
     // An instruction that issued.
@@ -133,12 +134,12 @@ impl Covered {
     }
 
     // A load that was taken.
-    pub fn load(&mut self, setting: Setting) {
-        for delay in setting.delays {
+    pub fn load(&mut self, setup: Setup) {
+        for delay in setup.delays {
             count(&mut self.delays, delay);
         }
-        count(&mut self.capacities, setting.capacity);
-        match setting.data_length {
+        count(&mut self.capacities, setup.capacity);
+        match setup.data_length {
             0 => self.empty_data.add_one(),
             4096 => self.full_data.add_one(),
             _ => {}
@@ -147,7 +148,7 @@ impl Covered {
 
     pub fn stop(&mut self, cause: Cause) {
         self.stops.add_one();
-        count(&mut self.causes, cause.number());
+        count(&mut self.causes, u32::from(cause));
     }
 }
 

@@ -1,9 +1,10 @@
 // Where the models differ.
 use crate::covered::{Call, Covered, Tally};
 use arrayvec::ArrayVec;
-use isa::fault::{Fault, cause_number};
+use isa::fault::Fault;
+use isa::number::number_or_0;
 use isa::refusal::Refusal;
-use pickcore::record::{CycleRecord, Report, hold_number};
+use pickcore::record::{CycleRecord, Report};
 use std::fmt;
 
 // What is compared. `Plain` is what the plain machine has beside the core.
@@ -101,11 +102,6 @@ pub struct Findings {
     first: ArrayVec<Difference, SHOWN>,
 }
 
-// The number of a refusal, fault, hold or cause, which is 0 where there is none.
-fn number_or_0<N: Into<u32>>(reason: Option<N>) -> u32 {
-    reason.map_or(0, N::into)
-}
-
 // A counter of a record as a number, which no counter is where there is none.
 fn counter_number<N: Into<u32>>(counter: Option<N>) -> u32 {
     counter.map_or(u32::MAX, N::into)
@@ -178,10 +174,10 @@ impl Findings {
             counter_number(core.issued),
             counter_number(other.issued),
         );
-        self.compare(What::Hold, hold_number(core.hold), number_or_0(other.hold));
+        self.compare(What::Hold, number_or_0(core.hold), number_or_0(other.hold));
         self.compare(
             What::CycleCause,
-            cause_number(core.cause),
+            number_or_0(core.cause),
             number_or_0(other.cause),
         );
     }
@@ -189,7 +185,7 @@ impl Findings {
     pub fn report(&mut self, core: Report, other: second::Report) {
         self.compare(
             What::Cause,
-            cause_number(core.cause),
+            number_or_0(core.cause),
             number_or_0(other.cause),
         );
         self.compare(What::Counter, u32::from(core.counter), other.counter);

@@ -1,30 +1,22 @@
-// What a job is made of: a setting, a program, data words, and the orders that the two models are given.
+// What a job is made of: a setup, a program, data words, and the orders that the two models are given.
 use crate::seed::Seed;
-use second::Delays;
+use pickcore::setup::Setup;
+use second::{Delays, Setting};
 use std::alloc::{AllocError, Global};
 
-#[derive(Clone, Copy)]
-pub struct Setting {
-    pub delays: [u32; 4],
-    pub capacity: u32,
-    pub program_length: u32,
-    pub data_length: u32,
-}
-
-impl From<Setting> for second::Setting {
-    fn from(setting: Setting) -> second::Setting {
-        let [short, multiply, divide, memory] = setting.delays;
-        second::Setting {
-            delays: Delays {
-                short,
-                multiply,
-                divide,
-                memory,
-            },
-            capacity: setting.capacity,
-            program_length: setting.program_length,
-            data_length: setting.data_length,
-        }
+// A setup as the second model takes it.
+pub fn second_setting(setup: Setup) -> Setting {
+    let [short, multiply, divide, memory] = setup.delays;
+    Setting {
+        delays: Delays {
+            short,
+            multiply,
+            divide,
+            memory,
+        },
+        capacity: setup.capacity,
+        program_length: setup.program_length,
+        data_length: setup.data_length,
     }
 }
 
@@ -54,7 +46,7 @@ impl Lent {
 
 #[derive(Clone, Copy)]
 pub enum Order {
-    Load(Setting),
+    Load(Setup),
     Resume(u32),
     Amend(u32, u32),
     Step(Lent),
@@ -70,9 +62,9 @@ fn one_to_sixteen(seed: &mut Seed) -> u32 {
     seed.below(most).wrapping_add(1)
 }
 
-// A setting of these lengths.
-pub fn setting_of(seed: &mut Seed, program_length: u32, data_length: u32) -> Setting {
-    Setting {
+// A setup of these lengths.
+pub fn setup_of(seed: &mut Seed, program_length: u32, data_length: u32) -> Setup {
+    Setup {
         delays: [
             one_to_sixteen(seed),
             one_to_sixteen(seed),
@@ -85,14 +77,14 @@ pub fn setting_of(seed: &mut Seed, program_length: u32, data_length: u32) -> Set
     }
 }
 
-// A job's setting: mostly small, and now and then as long as a core takes.
-pub fn job_setting(seed: &mut Seed) -> Setting {
+// A job's setup: mostly small, and now and then as long as a core takes.
+pub fn job_setup(seed: &mut Seed) -> Setup {
     if seed.one_in(32) {
-        return setting_of(seed, 4096, 4096);
+        return setup_of(seed, 4096, 4096);
     }
     let program_length = seed.below(24).wrapping_add(1);
     let data_length = seed.below(9);
-    setting_of(seed, program_length, data_length)
+    setup_of(seed, program_length, data_length)
 }
 
 // Few registers, so that instructions wait for each other.
@@ -105,38 +97,38 @@ fn register(seed: &mut Seed) -> u32 {
 }
 
 // An instruction of any kind but stop, with none of the bits that its kind does not use.
-fn instruction(seed: &mut Seed, setting: Setting) -> u32 {
+fn instruction(seed: &mut Seed, setup: Setup) -> u32 {
     let kind = seed.below(11).wrapping_add(1);
     let d = register(seed) << 24;
     let a = register(seed) << 20;
     let b = register(seed) << 16;
     let fields = match kind {
         1 => d | (seed.word() & 0xffff),
-        8 => d | a | seed.below(setting.data_length.wrapping_add(1)),
-        9 => a | b | seed.below(setting.data_length.wrapping_add(1)),
-        10 | 11 => a | b | seed.below(setting.program_length.wrapping_add(1)),
+        8 => d | a | seed.below(setup.data_length.wrapping_add(1)),
+        9 => a | b | seed.below(setup.data_length.wrapping_add(1)),
+        10 | 11 => a | b | seed.below(setup.program_length.wrapping_add(1)),
         _ => d | a | b,
     };
     kind << 28 | fields
 }
 
 // A word of a program: now and then a stop, any word, or one with a bit turned that may be unused.
-fn program_word(seed: &mut Seed, setting: Setting) -> u32 {
+fn program_word(seed: &mut Seed, setup: Setup) -> u32 {
     match seed.below(40) {
         0 => 0,
         1 => seed.word(),
-        2 => instruction(seed, setting) ^ (1 << (seed.word() % 28)),
-        _ => instruction(seed, setting),
+        2 => instruction(seed, setup) ^ (1 << (seed.word() % 28)),
+        _ => instruction(seed, setup),
     }
 }
 
 pub fn program_words(
     heap: Global,
     seed: &mut Seed,
-    setting: Setting,
+    setup: Setup,
 ) -> Result<Vec<u32>, AllocError> {
-    (0..setting.program_length)
-        .map(|_| program_word(seed, setting))
+    (0..setup.program_length)
+        .map(|_| program_word(seed, setup))
         .collect(heap)
 }
 
@@ -145,8 +137,8 @@ pub fn data_words(heap: Global, mut seed: Seed, length: u32) -> Result<Vec<u32>,
 }
 
 // A load with one part out of range.
-fn unfit_load(seed: &mut Seed, setting: Setting) -> Order {
-    let mut unfit = setting;
+fn unfit_load(seed: &mut Seed, setup: Setup) -> Order {
+    let mut unfit = setup;
     let place = (seed.word() >> 30) as usize;
     match seed.below(7) {
         0 => unfit.delays[place] = 0,
@@ -161,7 +153,7 @@ fn unfit_load(seed: &mut Seed, setting: Setting) -> Order {
 }
 
 // An order that is declined, either always or while the core is running or stopped.
-fn unfit_order(seed: &mut Seed, setting: Setting) -> Order {
+fn unfit_order(seed: &mut Seed, setup: Setup) -> Order {
     match seed.below(16) {
         0 => Order::Amend(16, 1),
         1 => Order::Resume(65536),
@@ -170,21 +162,21 @@ fn unfit_order(seed: &mut Seed, setting: Setting) -> Order {
         4 => Order::Run(Lent::NoProgram),
         5 => Order::Run(Lent::OtherData),
         6 => Order::WriteShortImage,
-        7 => Order::Load(setting),
+        7 => Order::Load(setup),
         8 => Order::Resume(0),
         9 => Order::Amend(1, 1),
         10 => Order::Step(Lent::All),
         11 => Order::Run(Lent::All),
         12 => Order::Request,
         13 => Order::Cut,
-        _ => unfit_load(seed, setting),
+        _ => unfit_load(seed, setup),
     }
 }
 
 // The next order: mostly one that does something in the state that the core is in.
-pub fn next_order(seed: &mut Seed, running: bool, setting: Setting) -> Order {
+pub fn next_order(seed: &mut Seed, running: bool, setup: Setup) -> Order {
     if seed.one_in(10) {
-        return unfit_order(seed, setting);
+        return unfit_order(seed, setup);
     }
     if running {
         return match seed.below(24) {
@@ -195,9 +187,9 @@ pub fn next_order(seed: &mut Seed, running: bool, setting: Setting) -> Order {
         };
     }
     match seed.below(16) {
-        0 => Order::Load(setting_of(seed, setting.program_length, setting.data_length)),
+        0 => Order::Load(setup_of(seed, setup.program_length, setup.data_length)),
         1 => Order::Resume(65535),
         2 | 3 | 4 | 5 | 6 => Order::Amend(register(seed), seed.operand()),
-        _ => Order::Resume(seed.below(setting.program_length)),
+        _ => Order::Resume(seed.below(setup.program_length)),
     }
 }

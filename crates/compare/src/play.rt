@@ -1,13 +1,14 @@
 // One job on the core and on the second model, with the plain machine beside them.
 use crate::covered::Call;
 use crate::findings::{Findings, What};
-use crate::jobs::{Lent, Order, Setting, data_words, job_setting, next_order, program_words};
+use crate::jobs::{Lent, Order, data_words, job_setup, next_order, program_words, second_setting};
 use crate::seed::Seed;
 use future::FutureFile;
 use history::HistoryBuffer;
 use isa::fault::{Cause, Fault};
 use isa::refusal::Refusal;
 use pickcore::record::CycleRecord;
+use pickcore::setup::Setup;
 use pickcore::state::Core;
 use recovery::Recovery;
 use reorder::{BypassBuffer, ReorderBuffer};
@@ -74,9 +75,9 @@ struct Pair<S: Scheme> {
 
 impl<S: Scheme> Pair<S> {
     // New models with a program and data words from the seed, never loaded.
-    fn new(heap: Global, seed: &mut Seed, setting: Setting) -> Result<Pair<S>, AllocError> {
-        let program = program_words(heap, seed, setting)?;
-        let length = setting.data_length;
+    fn new(heap: Global, seed: &mut Seed, setup: Setup) -> Result<Pair<S>, AllocError> {
+        let program = program_words(heap, seed, setup)?;
+        let length = setup.data_length;
         Ok(Pair {
             core: Core::new(),
             second: Second::new(S::NUMBER),
@@ -90,17 +91,12 @@ impl<S: Scheme> Pair<S> {
         })
     }
 
-    fn load(&mut self, setting: Setting, findings: &mut Findings) {
-        let core = self.core.load(
-            setting.delays,
-            setting.capacity,
-            setting.program_length,
-            setting.data_length,
-        );
-        let second = self.second.load(setting.into());
+    fn load(&mut self, setup: Setup, findings: &mut Findings) {
+        let core = self.core.load(setup);
+        let second = self.second.load(second_setting(setup));
         findings.answer(Call::Load, core.err(), second.err());
         if core.is_ok() {
-            findings.covered.load(setting);
+            findings.covered.load(setup);
             self.plain = Simple::new();
             self.took_back = false;
         }
@@ -215,7 +211,7 @@ impl<S: Scheme> Pair<S> {
         self.took_back = self.in_flight >= 2;
         self.in_flight = 0;
         let Ok(report) = self.core.report() else {
-            findings.compare(What::Cause, 0, cause.number());
+            findings.compare(What::Cause, 0, u32::from(cause));
             return;
         };
         for _ in 0..report.count {
@@ -298,7 +294,7 @@ impl<S: Scheme> Pair<S> {
     // Does as ordered, and compares all that can be asked after it.
     fn follow(&mut self, order: Order, findings: &mut Findings) {
         match order {
-            Order::Load(setting) => self.load(setting, findings),
+            Order::Load(setup) => self.load(setup, findings),
             Order::Resume(counter) => self.resume(counter, findings),
             Order::Amend(register, word) => self.amend(register, word, findings),
             Order::Step(lent) => self.step(lent, findings),
@@ -321,16 +317,16 @@ pub fn play<S: Scheme>(
 ) -> Result<(), AllocError> {
     findings.begin_job(S::NUMBER);
     let mut seed = Seed::new(number);
-    let setting = job_setting(&mut seed);
-    let mut pair: Pair<S> = Pair::new(heap, &mut seed, setting)?;
-    pair.follow(Order::Load(setting), findings);
+    let setup = job_setup(&mut seed);
+    let mut pair: Pair<S> = Pair::new(heap, &mut seed, setup)?;
+    pair.follow(Order::Load(setup), findings);
     for register in 0..5 {
         pair.follow(Order::Amend(register, seed.operand()), findings);
     }
     pair.follow(Order::Resume(0), findings);
     for _ in 0..ORDERS {
         let running = pair.core.report().is_err();
-        let order = next_order(&mut seed, running, setting);
+        let order = next_order(&mut seed, running, setup);
         pair.follow(order, findings);
     }
     Ok(())
@@ -339,17 +335,17 @@ pub fn play<S: Scheme>(
 // A job that uses up a stretch: its program is a loop, and the step after the millionth is declined.
 pub fn play_stretch<S: Scheme>(heap: Global, findings: &mut Findings) -> Result<(), AllocError> {
     findings.begin_job(S::NUMBER);
-    let setting = Setting {
+    let setup = Setup {
         delays: [2, 3, 4, 2],
         capacity: 4,
         program_length: 4,
         data_length: 2,
     };
     let mut seed = Seed::new(S::NUMBER);
-    let mut pair: Pair<S> = Pair::new(heap, &mut seed, setting)?;
+    let mut pair: Pair<S> = Pair::new(heap, &mut seed, setup)?;
     // add R1 to R2, multiply R3 of R2 and R1, load R4, branch to the first
     pair.program = vec![in heap; 0x2221_0000, 0x5321_0000, 0x8400_0001, 0xa000_0000]?;
-    pair.follow(Order::Load(setting), findings);
+    pair.follow(Order::Load(setup), findings);
     pair.follow(Order::Amend(1, 0x8000_0001), findings);
     pair.follow(Order::Resume(0), findings);
     for _ in 0..1_000_000u32 {

@@ -9,9 +9,10 @@ use future::FutureFile;
 use history::HistoryBuffer;
 use isa::refusal::Refusal;
 use jobfile::scheme::Scheme;
-use jobs::call::{Answer, Call, Setup, Totals};
+use jobs::call::{Answer, Call, Totals};
 use jobs::play::{NotPlayed, play};
 use pickcore::record::CycleRecord;
+use pickcore::setup::Setup;
 use pickcore::state::Core;
 use printing::answers::push_answer;
 use printing::desk::{push_input, push_load, push_totals};
@@ -105,14 +106,8 @@ fn tell_on<S: Recovery + Drop>(alloc: Global, script: Script) -> Result<String, 
     let words = copies_asked(calls)
         .checked_mul(data.len())
         .ok_or(AllocError)?;
-    let blank = CycleRecord {
-        retired: None,
-        issued: None,
-        hold: None,
-        cause: None,
-    };
     let mut answers = vec![in alloc; Answer::Data(0); calls.len()]?;
-    let mut records = vec![in alloc; blank; cycles]?;
+    let mut records = vec![in alloc; CycleRecord::default(); cycles]?;
     let mut copies = vec![in alloc; 0; words]?;
     let mut core: Core<S> = Core::new();
     let setup = Setup::new(setting.delays, setting.capacity, program, data);

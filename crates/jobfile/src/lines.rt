@@ -2,9 +2,9 @@
 ghost use Rattle.std.specs.Prelude.{Some};
 ghost use Rattle.jobfile.specs.Lines.{hex_word, counter_text, cycle_line, stop_line, declined_line};
 
-use isa::fault::cause_number;
+use isa::number::number_or_0;
 use isa::refusal::Refusal;
-use pickcore::record::{CycleRecord, Report, hold_number};
+use pickcore::record::{CycleRecord, Report};
 use std::fmt;
 
 // A counter, or a dash where there is none.
@@ -36,7 +36,7 @@ impl fmt::Display for CycleLine {
         let number = self.number;
         let retired = Counter(self.cycle.retired);
         let issued = Counter(self.cycle.issued);
-        let hold = hold_number(self.cycle.hold);
+        let hold = number_or_0(self.cycle.hold);
         writeln!(f, "{number} {retired} {issued} {hold}")
     }
 }
@@ -49,7 +49,7 @@ impl fmt::Display for StopLine {
     ghost output = { λ x. Some (stop_line x.0) };
 
     fn fmt<W: fmt::Write>(&self, f: &mut fmt::Formatter<W>) -> fmt::Result {
-        let cause = cause_number(self.0.cause);
+        let cause = number_or_0(self.0.cause);
         let counter = self.0.counter;
         let count = self.0.count;
         writeln!(f, "stop {cause} {counter} {count}")
@@ -64,7 +64,7 @@ impl fmt::Display for DeclinedLine {
     ghost output = { λ x. Some (declined_line x.0) };
 
     fn fmt<W: fmt::Write>(&self, f: &mut fmt::Formatter<W>) -> fmt::Result {
-        let number = self.0.number();
+        let number = u32::from(self.0);
         writeln!(f, "declined {number}")
     }
 }

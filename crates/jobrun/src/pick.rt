@@ -10,7 +10,9 @@ use jobfile::job::read_job;
 use jobfile::lines::{CycleLine, DeclinedLine, StopLine};
 use jobfile::order::Job;
 use jobfile::scheme::Scheme;
+use jobfile::setting::Setting;
 use pickcore::record::{CycleRecord, Report};
+use pickcore::setup::Setup;
 use pickcore::state::Core;
 use recovery::Recovery;
 use reorder::{BypassBuffer, ReorderBuffer};
@@ -53,23 +55,22 @@ fn run_on<S: Recovery + Drop>(alloc: Global, job: Job) -> Result<String, AllocEr
     let program = program.as_slice();
     let data = words.as_mut_slice();
     let mut core: Core<S> = Core::new();
-    let loaded = core.load(
-        setting.delays,
-        setting.capacity,
-        program.len() as u32,
-        data.len() as u32,
-    );
+    let Setting {
+        scheme: _,
+        delays,
+        capacity,
+    } = setting;
+    let loaded = core.load(Setup {
+        delays,
+        capacity,
+        program_length: program.len() as u32,
+        data_length: data.len() as u32,
+    });
     if let Err(refusal) = loaded {
         return DeclinedLine(refusal).to_string(alloc);
     }
     let _ = core.resume(0);
-    let blank = CycleRecord {
-        retired: None,
-        issued: None,
-        hold: None,
-        cause: None,
-    };
-    let mut records = vec![in alloc; blank; cycles as usize]?;
+    let mut records = vec![in alloc; CycleRecord::default(); cycles as usize]?;
     let Ok(done) = core.run(program, data, records.as_mut_slice()) else {
         unreachable()
     };

@@ -10,6 +10,8 @@ use isa::plain::PlainMachine;
 use jobfile::job::read_job;
 use jobfile::lines::{DeclinedLine, HexWord};
 use jobfile::order::Job;
+use jobfile::setting::Setting;
+use pickcore::setup::Setup;
 use pickcore::state::Core;
 use reorder::BypassBuffer;
 use std::alloc::{AllocError, Global};
@@ -41,7 +43,7 @@ fn push_end(text: &mut String, fault: Result<(), Fault>, counter: usize) -> Resu
     match fault {
         Ok(()) => writeln!(text, "at {counter}"),
         Err(fault) => {
-            let cause = fault.number();
+            let cause = u32::from(fault);
             writeln!(text, "fault {cause} {counter}")
         }
     }
@@ -76,12 +78,17 @@ fn plain_job(alloc: Global, job: Job) -> Result<String, AllocError>
         cycles,
     } = job;
     let mut core: Core<BypassBuffer> = Core::new();
-    let loaded = core.load(
-        setting.delays,
-        setting.capacity,
-        program.len() as u32,
-        words.len() as u32,
-    );
+    let Setting {
+        scheme: _,
+        delays,
+        capacity,
+    } = setting;
+    let loaded = core.load(Setup {
+        delays,
+        capacity,
+        program_length: program.len() as u32,
+        data_length: words.len() as u32,
+    });
     if let Err(refusal) = loaded {
         return DeclinedLine(refusal).to_string(alloc);
     }

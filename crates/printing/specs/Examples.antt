@@ -29,7 +29,7 @@ LinesArePrinted =
     × (answer_lines (call_name (call.Run 9)) (answer.Ran (Ok 2)) (held ∷ (stopped ∷ [])) [] ≡ codes "cycle 1 3 - 3 0\ncycle 2 - - 0 7\nrun 2\n")
     × (answer_lines (call_name call.Report) (answer.Reported (Ok report)) [] [] ≡ codes "report 8 12 40\n")
     × (answer_lines (call_name call.TakeUpImage) (answer.Done (Err (refusal.ImageWord 35))) [] [] ≡ codes "take-up declined 13 35\n")
-    × (answer_lines (call_name call.Registers) (answer.Registers [] 6) [] [] ≡ codes "registers declined 6\n")
+    × (answer_lines (call_name call.Registers) (answer.Registers (Err refusal.Running)) [] [] ≡ codes "registers declined 6\n")
     × (answer_lines (call_name call.Data) (answer.Data 1) [] (175 ∷ []) ≡ codes "data 0x000000af\n")
     × (load_line (Err refusal.Program) ≡ codes "load declined 3\n")
     × (input_line 7 ≡ codes "input 7\n")

@@ -34,10 +34,6 @@ call_name call.Data = codes "data"
 abbrev pub ok_line : List ℕ → List ℕ
 ok_line name = name ++ codes " ok\n"
 
--- a call that was declined with a number
-abbrev pub declined_line : List ℕ → ℕ → List ℕ
-declined_line name n = name ++ (codes " declined " ++ (decimal n ++ codes "\n"))
-
 -- that a call was declined: by its number; the index of a bad word stands behind it, and no other number has one
 abbrev pub declined_text : Refusal → List ℕ
 declined_text refusal.Delay = codes "declined " ++ decimal 1
@@ -95,10 +91,6 @@ words_text ws = flat_map spaced_word ws
 abbrev pub words_line : List ℕ → List ℕ → List ℕ
 words_line name ws = name ++ (words_text ws ++ codes "\n")
 
--- the registers, or the number that they were declined with; 0 stands for none
-abbrev pub registers_line : List ℕ → List ℕ → ℕ → List ℕ
-registers_line name ws n = cond (n == 0) (words_line name ws) (declined_line name n)
-
 -- the lines of an answer to a call of that name; of a run its records, and of a call for the data these words
 abbrev pub answer_lines : List ℕ → Answer → List CycleRecord → List ℕ → List ℕ
 answer_lines name (answer.Stepped (Ok r)) rs ws = step_line name r
@@ -109,7 +101,8 @@ answer_lines name (answer.Done (Ok u)) rs ws = ok_line name
 answer_lines name (answer.Done (Err x)) rs ws = refused_line name x
 answer_lines name (answer.Reported (Ok r)) rs ws = report_line name r
 answer_lines name (answer.Reported (Err x)) rs ws = refused_line name x
-answer_lines name (answer.Registers xs n) rs ws = registers_line name xs n
+answer_lines name (answer.Registers (Ok xs)) rs ws = words_line name xs
+answer_lines name (answer.Registers (Err x)) rs ws = refused_line name x
 answer_lines name (answer.Imaged (Ok xs)) rs ws = words_line name xs
 answer_lines name (answer.Imaged (Err x)) rs ws = refused_line name x
 answer_lines name (answer.Data n) rs ws = words_line name ws

@@ -4,7 +4,7 @@ ghost use Rattle.printing.specs.Lines.{run_lines, report_line, answer_lines, cal
 
 use crate::calls::call_name;
 use crate::parts::{Cycle, Declined, push_words};
-use isa::fault::cause_number;
+use isa::number::number_or_0;
 use jobs::call::{Answer, Call};
 use pickcore::record::{CycleRecord, Report};
 use std::alloc::AllocError;
@@ -28,7 +28,7 @@ fn push_run(
 fn push_report(text: &mut String, name: &str, report: Report) -> Result<(), AllocError>
     ensures { is_ok result ≡ true → string_bytes text.new ≡ string_bytes text.old ++ report_line name.now report }
 {
-    let cause = cause_number(report.cause);
+    let cause = number_or_0(report.cause);
     let counter = report.counter;
     let count = report.count;
     writeln!(text, "{name} {cause} {counter} {count}")
@@ -51,15 +51,14 @@ pub fn push_answer(
         Answer::Ran(Ok(count)) => push_run(text, name, *count, records),
         Answer::Done(Ok(())) => writeln!(text, "{name} ok"),
         Answer::Reported(Ok(report)) => push_report(text, name, *report),
-        // the number 0 stands for words that were answered
-        Answer::Registers(registers, 0) => push_words(text, name, registers),
-        Answer::Registers(_, number) => writeln!(text, "{name} declined {number}"),
+        Answer::Registers(Ok(registers)) => push_words(text, name, registers),
         Answer::Imaged(Ok(image)) => push_words(text, name, image),
         Answer::Data(_) => push_words(text, name, words),
         Answer::Stepped(Err(refusal))
         | Answer::Ran(Err(refusal))
         | Answer::Done(Err(refusal))
         | Answer::Reported(Err(refusal))
+        | Answer::Registers(Err(refusal))
         | Answer::Imaged(Err(refusal)) => writeln!(text, "{name} {}", Declined(*refusal)),
     }
 }

@@ -4,7 +4,7 @@ ghost use Rattle.printing.specs.Lines.{device_name, refused_line, stop_line, cou
 
 use crate::device::Device;
 use crate::parts::Declined;
-use isa::fault::cause_number;
+use isa::number::number_or_0;
 use isa::refusal::Refusal;
 use pickcore::record::Report;
 use std::alloc::AllocError;
@@ -29,7 +29,7 @@ pub fn push_stop(
 ) -> Result<(), AllocError>
     ensures { is_ok result ≡ true → string_bytes text.new ≡ string_bytes text.old ++ stop_line device report cycles }
 {
-    let cause = cause_number(report.cause);
+    let cause = number_or_0(report.cause);
     let counter = report.counter;
     let count = report.count;
     writeln!(

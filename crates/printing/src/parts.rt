@@ -2,10 +2,10 @@
 ghost use Rattle.std.specs.Prelude.{◌≡◌, true, ◌++◌, Some, is_ok, string_bytes};
 ghost use Rattle.printing.specs.Lines.{declined_text, record_text, words_text, words_line};
 
-use isa::fault::cause_number;
+use isa::number::number_or_0;
 use isa::refusal::Refusal;
 use jobfile::lines::{Counter, HexWord};
-use pickcore::record::{CycleRecord, hold_number};
+use pickcore::record::CycleRecord;
 use std::alloc::AllocError;
 use std::fmt;
 
@@ -17,7 +17,7 @@ impl fmt::Display for Declined {
     ghost output = { λ x. Some (declined_text x.0) };
 
     fn fmt<W: fmt::Write>(&self, f: &mut fmt::Formatter<W>) -> fmt::Result {
-        let number = self.0.number();
+        let number = u32::from(self.0);
         match self.0 {
             Refusal::ImageWord(index) => write!(f, "declined {number} {index}"),
             _ => write!(f, "declined {number}"),
@@ -35,8 +35,8 @@ impl fmt::Display for Cycle {
     fn fmt<W: fmt::Write>(&self, f: &mut fmt::Formatter<W>) -> fmt::Result {
         let retired = Counter(self.0.retired);
         let issued = Counter(self.0.issued);
-        let hold = hold_number(self.0.hold);
-        let cause = cause_number(self.0.cause);
+        let hold = number_or_0(self.0.hold);
+        let cause = number_or_0(self.0.cause);
         write!(f, "{retired} {issued} {hold} {cause}")
     }
 }

@@ -152,9 +152,9 @@ fn numbers(rt: HostRuntime) {
         (Fault::Stop, 6),
     ] {
         assert_eq!(rt;
-            (fault.number(), Cause::Fault(fault).number()),
+            (u32::from(fault), u32::from(Cause::Fault(fault))),
             (number, number)
         );
     }
-    assert_eq!(rt; (Cause::Request.number(), Cause::Cut.number()), (7, 8));
+    assert_eq!(rt; (u32::from(Cause::Request), u32::from(Cause::Cut)), (7, 8));
 }

@@ -4,6 +4,7 @@ use isa::plain::PlainMachine;
 use isa::refusal::Refusal;
 use isa::unit::UNITS;
 use pickcore::record::{CycleRecord, Report};
+use pickcore::setup::Setup;
 use pickcore::state::Core;
 use recovery::Recovery;
 use std::process::Abort;
@@ -68,12 +69,12 @@ pub fn load<S: Recovery>(
     program_length: u32,
     data_length: u32,
 ) -> Result<(), Refusal> {
-    core.load(
-        setting.delays,
-        setting.capacity,
+    core.load(Setup {
+        delays: setting.delays,
+        capacity: setting.capacity,
         program_length,
         data_length,
-    )
+    })
 }
 
 // A core that is loaded with a setting and started at counter 0.

@@ -26,7 +26,7 @@ returns-in-Ok g c =
     (tells g.S.Recovery.MARK c.args.script.setting.delays c.args.script.setting.capacity c.as_slice-program.result.now c.as_mut_slice-data.result.now c.as_slice-calls.result.now c.as_mut_slice.result.now c.as_mut_slice-2.result.now c.as_mut_slice-3.result.now
     (machine_of g.S.Recovery.meaning c.new-core.result) c.new-setup.result t c.play-played.new.answers c.play-played.new.records c.play-played.new.copies
     (machine_of g.S.Recovery.meaning c.play-played.new.core) c.play-played.new.data (string_bytes s)
-    c.new-core.ensures.value c.new-setup.ensures (c.as_mut_slice-2.ensures.len ∙ (c.in_ok-records.ensures.len ∙ cycles)) (c.as_mut_slice-3.ensures.len ∙ (c.in_ok-copies.ensures.len ∙ words)) (c.as_mut_slice.ensures.len ∙ c.in_ok-answers.ensures.len) c.in-Ok.ensures.outcome
+    c.new-core.ensures c.new-setup.ensures (c.as_mut_slice-2.ensures.len ∙ (c.in_ok-records.ensures.len ∙ cycles)) (c.as_mut_slice-3.ensures.len ∙ (c.in_ok-copies.ensures.len ∙ words)) (c.as_mut_slice.ensures.len ∙ c.in_ok-answers.ensures.len) c.in-Ok.ensures.outcome
     (e ∙ (ap (λ xs. load_line (Ok tt) ++ (answers_text calls xs (take t.records c.as_slice-in-Ok.result.now) (take t.words c.as_slice-in-Ok-2.result.now) ++ totals_line t.reports t.instructions t.cycles)) a
     ∙ (ap (λ xs. load_line (Ok tt) ++ (answers_text calls c.play-played.new.answers (take t.records xs) (take t.words c.as_slice-in-Ok-2.result.now) ++ totals_line t.reports t.instructions t.cycles)) r
     ∙ ap (λ xs. load_line (Ok tt) ++ (answers_text calls c.play-played.new.answers (take t.records c.play-played.new.records) (take t.words xs) ++ totals_line t.reports t.instructions t.cycles)) p)))))))

@@ -13,14 +13,14 @@ returns-in-Err g c =
     let same = same_lists (held c.args.job) c.as_slice-program.result.now c.as_mut_slice-data.result.now c.as_slice-program.ensures.value c.as_mut_slice-data.ensures.value in
     IfOk-weaker c.to_string.result _ _
     (λ s e. subst (λ j. PrintsBy g.S.Recovery.MARK j (refused j) (string_bytes s)) same
-    (declines o (machine_of g.S.Recovery.meaning c.new-core.result) c.in-Err.refusal g.S.Recovery.MARK (string_bytes s) c.new-core.ensures.value c.in-Err.ensures.answer e))
+    (declines o (machine_of g.S.Recovery.meaning c.new-core.result) c.in-Err.refusal g.S.Recovery.MARK (string_bytes s) c.new-core.ensures c.in-Err.ensures.answer e))
     c.to_string.ensures.ok
 
 pub unreachable-requires : goal.unreachable-requires
 unreachable-requires g c =
     never_refused (with_lists (held c.args.job) c.as_slice-program.result.now c.as_mut_slice-data.result.now)
     (machine_of g.S.Recovery.meaning c.new-core.result) (machine_of g.S.Recovery.meaning c.load-loaded.new.self) (machine_of g.S.Recovery.meaning c.resume.new.self)
-    c.new-core.ensures.value c.in_default.ensures.answer c.load-loaded.ensures.leaves c.resume.ensures.leaves
+    c.new-core.ensures c.in_default.ensures.answer c.load-loaded.ensures.leaves c.resume.ensures.leaves
     g.S.Recovery.MARK c.as_mut_slice.result.now c.run.new.records (machine_of g.S.Recovery.meaning c.run.new.self) c.run.new.data
     c.in_default-run.field-0 c.in_default-run.ensures.runs
 
@@ -31,7 +31,7 @@ returns g c =
     let n : c.in_ok-records.records.len ≡ length c.run.new.records = omega (arith, c.run.auto.records, c.as_mut_slice.ensures.len) in
     subst (λ j. PrintsBy g.S.Recovery.MARK j (refused j) (string_bytes c.push_last.new.text)) same
     (shows o (machine_of g.S.Recovery.meaning c.new-core.result) (machine_of g.S.Recovery.meaning c.load-loaded.new.self) (machine_of g.S.Recovery.meaning c.resume.new.self)
-    c.new-core.ensures.value c.in_default.ensures.answer c.load-loaded.ensures.leaves c.resume.ensures.leaves
+    c.new-core.ensures c.in_default.ensures.answer c.load-loaded.ensures.leaves c.resume.ensures.leaves
     g.S.Recovery.MARK c.as_mut_slice.result.now c.run.new.records (machine_of g.S.Recovery.meaning c.run.new.self) c.run.new.data
     c.in-Ok.done (string_bytes c.push_last.new.text) c.in-Ok.ensures.runs (c.as_mut_slice.ensures.len ∙ c.in_ok-records.ensures.len)
     (c.in_ok-push_last.ensures refl

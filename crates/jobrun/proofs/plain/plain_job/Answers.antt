@@ -12,7 +12,7 @@ returns-in-Err c =
     let p : c.len.result ≡ length (vec_items c.args.job.program) = c.len.ensures ∙ c.args.job.program.ok.0 in
     let w : c.len-2.result ≡ length (vec_items c.args.job.words) = c.len-2.ensures ∙ c.args.job.words.ok.0 in
     let a = c.in-Err.ensures.answer
-    ∙ (ap (λ m. accepted (load_refusal m c.args.job.setting.delays c.args.job.setting.capacity c.len.result c.len-2.result)) c.new-core.ensures.value
+    ∙ (ap (λ m. accepted (load_refusal m c.args.job.setting.delays c.args.job.setting.capacity c.len.result c.len-2.result)) c.new-core.ensures
     ∙ (ap (λ n. accepted (load_refusal unloaded c.args.job.setting.delays c.args.job.setting.capacity n c.len-2.result)) p
     ∙ ap (λ n. accepted (load_refusal unloaded c.args.job.setting.delays c.args.job.setting.capacity (length (vec_items c.args.job.program)) n)) w)) in
     IfOk-weaker c.to_string.result _ _ (λ s e. e ∙ sym (ap (plain_by (held c.args.job)) (turned_down (held c.args.job) c.in-Err.refusal a))) c.to_string.ensures.ok
