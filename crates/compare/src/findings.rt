@@ -159,8 +159,7 @@ impl Findings {
 
     // Counts a call, and compares why it was declined, if it was.
     pub fn answer(&mut self, call: Call, core: Option<Refusal>, other: Option<second::Refusal>) {
-        let number = core.map_or(0, Refusal::number);
-        self.answer_numbers(call, number, number_or_0(other));
+        self.answer_numbers(call, number_or_0(core), number_or_0(other));
     }
 
     pub fn record(&mut self, core: CycleRecord, other: second::Record) {
@@ -194,8 +193,7 @@ impl Findings {
 
     // Compares the fault that the core stopped at, or none, with the plain machine's.
     pub fn plain_fault(&mut self, core: Option<Fault>, plain: Option<second::Fault>) {
-        let number = core.map_or(0, Fault::number);
-        self.compare(What::PlainFault, number, number_or_0(plain));
+        self.compare(What::PlainFault, number_or_0(core), number_or_0(plain));
     }
 }
 

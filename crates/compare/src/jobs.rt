@@ -122,18 +122,14 @@ fn program_word(seed: &mut Seed, setup: Setup) -> u32 {
     }
 }
 
-pub fn program_words(
-    heap: Global,
-    seed: &mut Seed,
-    setup: Setup,
-) -> Result<Vec<u32>, AllocError> {
+pub fn program_words(alloc: Global, seed: &mut Seed, setup: Setup) -> Result<Vec<u32>, AllocError> {
     (0..setup.program_length)
         .map(|_| program_word(seed, setup))
-        .collect(heap)
+        .collect(alloc)
 }
 
-pub fn data_words(heap: Global, mut seed: Seed, length: u32) -> Result<Vec<u32>, AllocError> {
-    (0..length).map(|_| seed.operand()).collect(heap)
+pub fn data_words(alloc: Global, mut seed: Seed, length: u32) -> Result<Vec<u32>, AllocError> {
+    (0..length).map(|_| seed.operand()).collect(alloc)
 }
 
 // A load with one part out of range.

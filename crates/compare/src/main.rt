@@ -19,18 +19,18 @@ use std::io;
 // Each is played under every scheme.
 const JOBS: u32 = 1000;
 
-fn play_all(heap: Global) -> Result<Findings, AllocError> {
+fn play_all(alloc: Global) -> Result<Findings, AllocError> {
     let mut findings = Findings::new();
     for number in 0..JOBS {
-        play::<ReorderBuffer>(heap, number, &mut findings)?;
-        play::<BypassBuffer>(heap, number, &mut findings)?;
-        play::<HistoryBuffer>(heap, number, &mut findings)?;
-        play::<FutureFile>(heap, number, &mut findings)?;
+        play::<ReorderBuffer>(alloc, number, &mut findings)?;
+        play::<BypassBuffer>(alloc, number, &mut findings)?;
+        play::<HistoryBuffer>(alloc, number, &mut findings)?;
+        play::<FutureFile>(alloc, number, &mut findings)?;
     }
-    play_stretch::<ReorderBuffer>(heap, &mut findings)?;
-    play_stretch::<BypassBuffer>(heap, &mut findings)?;
-    play_stretch::<HistoryBuffer>(heap, &mut findings)?;
-    play_stretch::<FutureFile>(heap, &mut findings)?;
+    play_stretch::<ReorderBuffer>(alloc, &mut findings)?;
+    play_stretch::<BypassBuffer>(alloc, &mut findings)?;
+    play_stretch::<HistoryBuffer>(alloc, &mut findings)?;
+    play_stretch::<FutureFile>(alloc, &mut findings)?;
     Ok(findings)
 }
 

@@ -29,14 +29,6 @@ const STORE: u32 = 9;
 // Data words of a length that no job has.
 const OTHER_DATA: [u32; 9] = [7; 9];
 
-// A record of no cycle, to fill lists with.
-const BLANK: CycleRecord = CycleRecord {
-    retired: None,
-    issued: None,
-    hold: None,
-    cause: None,
-};
-
 // A scheme, with the number by which the second model knows it.
 pub trait Scheme: Recovery + Drop {
     const NUMBER: u32;
@@ -75,17 +67,17 @@ struct Pair<S: Scheme> {
 
 impl<S: Scheme> Pair<S> {
     // New models with a program and data words from the seed, never loaded.
-    fn new(heap: Global, seed: &mut Seed, setup: Setup) -> Result<Pair<S>, AllocError> {
-        let program = program_words(heap, seed, setup)?;
+    fn new(alloc: Global, seed: &mut Seed, setup: Setup) -> Result<Pair<S>, AllocError> {
+        let program = program_words(alloc, seed, setup)?;
         let length = setup.data_length;
         Ok(Pair {
             core: Core::new(),
             second: Second::new(S::NUMBER),
             plain: Simple::new(),
             program,
-            core_data: data_words(heap, *seed, length)?,
-            second_data: data_words(heap, *seed, length)?,
-            plain_data: data_words(heap, *seed, length)?,
+            core_data: data_words(alloc, *seed, length)?,
+            second_data: data_words(alloc, *seed, length)?,
+            plain_data: data_words(alloc, *seed, length)?,
             in_flight: 0,
             took_back: false,
         })
@@ -162,7 +154,7 @@ impl<S: Scheme> Pair<S> {
     }
 
     fn run(&mut self, lent: Lent, findings: &mut Findings) {
-        let mut records = [BLANK; RUN];
+        let mut records = [CycleRecord::default(); RUN];
         let mut others = [Record::default(); RUN];
         let mut other_data = OTHER_DATA;
         let program = lent.program(self.program.as_slice());
@@ -311,14 +303,14 @@ impl<S: Scheme> Pair<S> {
 
 // The job of a number: loaded, with words in the registers that its program uses most, and then orders by chance.
 pub fn play<S: Scheme>(
-    heap: Global,
+    alloc: Global,
     number: u32,
     findings: &mut Findings,
 ) -> Result<(), AllocError> {
     findings.begin_job(S::NUMBER);
     let mut seed = Seed::new(number);
     let setup = job_setup(&mut seed);
-    let mut pair: Pair<S> = Pair::new(heap, &mut seed, setup)?;
+    let mut pair: Pair<S> = Pair::new(alloc, &mut seed, setup)?;
     pair.follow(Order::Load(setup), findings);
     for register in 0..5 {
         pair.follow(Order::Amend(register, seed.operand()), findings);
@@ -333,7 +325,7 @@ pub fn play<S: Scheme>(
 }
 
 // A job that uses up a stretch: its program is a loop, and the step after the millionth is declined.
-pub fn play_stretch<S: Scheme>(heap: Global, findings: &mut Findings) -> Result<(), AllocError> {
+pub fn play_stretch<S: Scheme>(alloc: Global, findings: &mut Findings) -> Result<(), AllocError> {
     findings.begin_job(S::NUMBER);
     let setup = Setup {
         delays: [2, 3, 4, 2],
@@ -342,9 +334,9 @@ pub fn play_stretch<S: Scheme>(heap: Global, findings: &mut Findings) -> Result<
         data_length: 2,
     };
     let mut seed = Seed::new(S::NUMBER);
-    let mut pair: Pair<S> = Pair::new(heap, &mut seed, setup)?;
+    let mut pair: Pair<S> = Pair::new(alloc, &mut seed, setup)?;
     // add R1 to R2, multiply R3 of R2 and R1, load R4, branch to the first
-    pair.program = vec![in heap; 0x2221_0000, 0x5321_0000, 0x8400_0001, 0xa000_0000]?;
+    pair.program = vec![in alloc; 0x2221_0000, 0x5321_0000, 0x8400_0001, 0xa000_0000]?;
     pair.follow(Order::Load(setup), findings);
     pair.follow(Order::Amend(1, 0x8000_0001), findings);
     pair.follow(Order::Resume(0), findings);

@@ -69,9 +69,10 @@ pub fn load<S: Recovery>(
     program_length: u32,
     data_length: u32,
 ) -> Result<(), Refusal> {
+    let Setting { delays, capacity } = setting;
     core.load(Setup {
-        delays: setting.delays,
-        capacity: setting.capacity,
+        delays,
+        capacity,
         program_length,
         data_length,
     })

@@ -7,8 +7,8 @@ use std::process::Abort;
 use std::test::Fail;
 
 // The bytes of some words, and one byte more where asked.
-fn input(heap: Global, words: &[u32], odd: bool) -> Result<Vec<u8>, AllocError> {
-    let mut bytes = Vec::new(heap);
+fn input(alloc: Global, words: &[u32], odd: bool) -> Result<Vec<u8>, AllocError> {
+    let mut bytes = Vec::new(alloc);
     push_words(&mut bytes, words)?;
     if odd {
         bytes.push(0)?;
@@ -16,21 +16,27 @@ fn input(heap: Global, words: &[u32], odd: bool) -> Result<Vec<u8>, AllocError> 
     Ok(bytes)
 }
 
-fn prints(rt: &impl Abort, heap: Global, words: &[u32], odd: bool, text: &str) -> Result<(), Fail> {
-    let bytes = input(heap, words, odd)?;
-    assert!(rt; pickrun(heap, bytes.as_slice())?.as_str() == text);
-    assert!(rt; plainrun(heap, bytes.as_slice())?.as_str() == text);
+fn prints(
+    rt: &impl Abort,
+    alloc: Global,
+    words: &[u32],
+    odd: bool,
+    text: &str,
+) -> Result<(), Fail> {
+    let bytes = input(alloc, words, odd)?;
+    assert!(rt; pickrun(alloc, bytes.as_slice())?.as_str() == text);
+    assert!(rt; plainrun(alloc, bytes.as_slice())?.as_str() == text);
     Ok(())
 }
 
 // Where the input holds no job, both say so and no more.
 #[test]
 fn inputs_without_a_job(rt: HostRuntime) -> Result<(), Fail> {
-    let heap = rt.alloc();
-    prints(&rt, heap, &[], false, "input\n")?;
-    prints(&rt, heap, &[], true, "input\n")?;
-    prints(&rt, heap, &[2, 1, 1, 1, 1, 1, 1, 0, 1], false, "input\n")?;
-    prints(&rt, heap, &[2, 1, 1, 1, 1, 1, 1, 0, 1, 0], true, "input\n")?;
+    let alloc = rt.alloc();
+    prints(&rt, alloc, &[], false, "input\n")?;
+    prints(&rt, alloc, &[], true, "input\n")?;
+    prints(&rt, alloc, &[2, 1, 1, 1, 1, 1, 1, 0, 1], false, "input\n")?;
+    prints(&rt, alloc, &[2, 1, 1, 1, 1, 1, 1, 0, 1, 0], true, "input\n")?;
     for header in [
         // no such scheme
         [0, 1, 1, 1, 1, 1, 1, 0, 1, 0],
@@ -45,7 +51,7 @@ fn inputs_without_a_job(rt: HostRuntime) -> Result<(), Fail> {
         [2, 1, 1, 1, 1, 1, 0x4000_0001, 0, 1, 0],
         [2, 1, 1, 1, 1, 1, 0x8000_0000, 0x8000_0001, 1, 0],
     ] {
-        prints(&rt, heap, &header, false, "input\n")?;
+        prints(&rt, alloc, &header, false, "input\n")?;
     }
     Ok(())
 }
@@ -53,24 +59,24 @@ fn inputs_without_a_job(rt: HostRuntime) -> Result<(), Fail> {
 // Where load declines the job, both give its number.
 #[test]
 fn jobs_that_are_declined(rt: HostRuntime) -> Result<(), Fail> {
-    let heap = rt.alloc();
+    let alloc = rt.alloc();
     prints(
         &rt,
-        heap,
+        alloc,
         &[2, 1, 1, 0, 1, 0, 1, 0, 1, 0],
         false,
         "declined 1\n",
     )?;
     prints(
         &rt,
-        heap,
+        alloc,
         &[2, 1, 1, 1, 1, 17, 1, 0, 1, 0],
         false,
         "declined 2\n",
     )?;
     prints(
         &rt,
-        heap,
+        alloc,
         &[2, 1, 1, 1, 1, 1, 0, 0, 1],
         false,
         "declined 3\n",
@@ -80,10 +86,10 @@ fn jobs_that_are_declined(rt: HostRuntime) -> Result<(), Fail> {
 // A core that is not done after its cycles is running, and the plain machine stands somewhere.
 #[test]
 fn jobs_that_go_on(rt: HostRuntime) -> Result<(), Fail> {
-    let heap = rt.alloc();
+    let alloc = rt.alloc();
     // branch to itself
-    let bytes = input(heap, &[1, 1, 1, 1, 1, 1, 1, 0, 2, 0xa000_0000], false)?;
-    assert!(rt; pickrun(heap, bytes.as_slice())?.as_str() == "1 - 0 0\n2 0 0 0\nrunning\n");
-    assert!(rt; plainrun(heap, bytes.as_slice())?.as_str() == "steps 2\nat 0\n");
+    let bytes = input(alloc, &[1, 1, 1, 1, 1, 1, 1, 0, 2, 0xa000_0000], false)?;
+    assert!(rt; pickrun(alloc, bytes.as_slice())?.as_str() == "1 - 0 0\n2 0 0 0\nrunning\n");
+    assert!(rt; plainrun(alloc, bytes.as_slice())?.as_str() == "steps 2\nat 0\n");
     Ok(())
 }
