@@ -11,7 +11,7 @@ use Rattle.future.proofs.Words.{none_parts, none_from, held_rest}
 
 some_none : (o : Option Entry) → not (is_some o) ≡ true → o ≡ None
 some_none None h = refl
-some_none (Some e) h = let z : ◌≡◌ {A = ℕ} 0 1 = cc in absurd (omega arith)
+some_none (Some e) h = grind arith
 
 -- a pending entry's destination is below 16 and named by no younger one
 pub clear_parts : (r : ℕ) (es : List Entry) → clear Pending (Some r) es ≡ true → (ltb r 16 ≡ true) × (youngest r es ≡ None)
@@ -57,8 +57,7 @@ guarded_push y (e ∷ es) i h g =
     (clear_more e.status e.destination es (es ++ (y ∷ [])) (λ r s d n. none_push r y es (other y.destination r (λ q.
     let t = holds_up r e es s d n in
     let f = i r q in
-    let z : ◌≡◌ {A = ℕ} 0 1 = cc in
-    omega arith)) n) p.0)
+    grind arith)) n) p.0)
     (guarded_push y es (λ r q. held_rest (youngest r es) (cond (names r e) (Some e) None) (i r q)) h p.1)
 
 -- a delivery changes no destination

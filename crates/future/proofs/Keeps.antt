@@ -31,7 +31,7 @@ cond_follows false ws m n f k = k refl
 
 cond_false : (b c : Bool) → cond b c true ≡ false → (b ≡ true) × (c ≡ false)
 cond_false true c h = (refl, h)
-cond_false false c h = let z : ◌≡◌ {A = ℕ} 0 1 = cc in absurd (omega arith)
+cond_false false c h = grind arith
 
 clear_new : (m : Meaning) (d : Option ℕ) → awaited_destination m d ≡ false → clear (first_status d) d [] ≡ true
 clear_new m None h = refl
@@ -56,7 +56,7 @@ turned s k = record { counter = s.counter; destination = s.destination; status =
 
 -- a result goes through the entries younger than its own
 behind_it : (d : Option ℕ) (r : Result ℕ Fault) (es : List Entry) (ws : List ℕ) → clear Pending d es ≡ true → current (put_done ws d (ended r)) es ≡ put_done (current ws es) d (ended r)
-behind_it None r es ws h = let z : ◌≡◌ {A = ℕ} 0 1 = cc in absurd (omega arith)
+behind_it None r es ws h = grind arith
 behind_it (Some d) (Ok w) es ws h = current_set d w es ws (clear_parts d es h).1
 behind_it (Some d) (Err k) es ws h = refl
 

@@ -9,8 +9,8 @@ use Rattle.recovery.specs.Meaning.{Entry, is_register, names, youngest, unready,
 use Rattle.future.specs.Current.{put_done, current}
 
 or_none : (o : Option Entry) (b : Bool) (e : Entry) → or_else o (cond b (Some e) None) ≡ None → (b ≡ false) × (o ≡ None)
-or_none (Some x) b e h = let z : ◌≡◌ {A = ℕ} 0 1 = cc in absurd (omega arith)
-or_none None true e h = let z : ◌≡◌ {A = ℕ} 0 1 = cc in absurd (omega arith)
+or_none (Some x) b e h = grind arith
+or_none None true e h = grind arith
 or_none None false e h = (refl, refl)
 
 -- a search that finds nothing passes the front, and finds nothing behind it
@@ -41,10 +41,10 @@ done_kept ws d (Faulted f) r h = refl
 
 -- what a done entry does to the word of its own register
 done_own : (ws : List ℕ) (d : Option ℕ) (s : Status) (r : ℕ) → r < length ws → is_register d r ≡ true → unready s ≡ false → get_or (put_done ws d s) r 0 ≡ word_of s
-done_own ws d Pending r l t u = let z : ◌≡◌ {A = ℕ} 0 1 = cc in absurd (omega arith)
-done_own ws None (Done w) r l t u = let z : ◌≡◌ {A = ℕ} 0 1 = cc in absurd (omega arith)
+done_own ws d Pending r l t u = grind arith
+done_own ws None (Done w) r l t u = grind arith
 done_own ws (Some d) (Done w) r l t u = ap (λ n. get_or (set ws n w) r 0) (eqb-true d r t) ∙ get_or-set_same ws r w 0 l
-done_own ws d (Faulted f) r l t u = let z : ◌≡◌ {A = ℕ} 0 1 = cc in absurd (omega arith)
+done_own ws d (Faulted f) r l t u = grind arith
 
 -- a write to a register that no entry names goes through
 pub current_set : (r w : ℕ) (es : List Entry) (ws : List ℕ) → youngest r es ≡ None → current (set ws r w) es ≡ set (current ws es) r w

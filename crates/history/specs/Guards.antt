@@ -23,7 +23,7 @@ guard_at (suc i) (x ∷ xs) l g = guard_at i xs (omega arith) (and_parts (clear 
 
 -- what a result does to the records younger than its own
 pub behind_it : (e : Option ℕ) (v w : ℕ) (zs : List HistoryRecord) (ws : List ℕ) → length ws ≡ 16 → clear Waiting e zs ≡ true → (put (unwind zs (put ws e w)) e v ≡ put (unwind zs ws) e v) × (slots_of zs (put ws e w) ≡ slots_of zs ws) × (word_at (unwind zs (put ws e w)) e ≡ w)
-behind_it None v w zs ws l h = let z : ◌≡◌ {A = ℕ} 0 1 = cc in absurd (omega arith)
+behind_it None v w zs ws l h = grind arith
 behind_it (Some d) v w zs ws l h =
     let p = and_parts (nat_lt d 16) (not (named d zs)) h in
     let n = not-true (named d zs) p.1 in

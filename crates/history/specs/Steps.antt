@@ -38,7 +38,7 @@ not_held : (r : ℕ) (b : Bool) → false ≡ cond (nat_lt r 16) b true → (nat
 not_held r b h =
     ⊎_elim
     (λ t. (t, sym (h ∙ ap (λ c. cond c b true) t)))
-    (λ f. let q : false ≡ true = h ∙ ap (λ c. cond c b true) f in let z : ◌≡◌ {A = ℕ} 0 1 = cc in absurd (omega arith))
+    (λ f. let q : false ≡ true = h ∙ ap (λ c. cond c b true) f in grind arith)
     (cases_Bool (nat_lt r 16))
 
 not_pending : (p : Progress) (w : ℕ) → p ≢ Waiting → is_pending (status_of p w) ≡ false
@@ -56,7 +56,7 @@ length_after ws d (Err f) = refl
 
 -- the oldest record, once it is finished, goes: its result is in the file, and only its old word is lost
 pub retires : (c t : ℕ) (x : HistoryRecord) (xs ys : List HistoryRecord) (ws : List ℕ) → slice_get xs 0 ≡ Some x → x.progress ≡ Finished → ys ≡ remove xs 0 → meaning_by c ((t + 1) % 256) ys ws ≡ retire_leaves (meaning_by c t xs ws)
-retires c t x [] ys ws g e q = let z : ◌≡◌ {A = ℕ} 0 1 = cc in absurd (omega arith)
+retires c t x [] ys ws g e q = grind arith
 retires c t x (y ∷ xs) ys ws g e q =
     let p : y.progress ≡ Finished = cc in
     ap (λ zs. meaning_by c ((t + 1) % 256) zs ws) q
@@ -140,13 +140,13 @@ module _ (h : HistoryBuffer) where
 
   -- no record waits for a destination that is not awaited
   idle_destination : (d : Option ℕ) → false ≡ awaited_destination (meaning_of h) d → Idle d h.records.items
-  idle_destination None k r q w = let z : ◌≡◌ {A = ℕ} 0 1 = cc in omega arith
+  idle_destination None k r q w = grind arith
   idle_destination (Some e) k r q w =
       let p = not_held e (unfinished (newest_progress e h.records.items)) (k ∙ awaited_by e) in
       let er : e ≡ r = cc in
       let t : unfinished (newest_progress e h.records.items) ≡ true = ap (λ n. unfinished (newest_progress n h.records.items)) er ∙ ap unfinished w in
       let q2 : false ≡ true = sym p.1 ∙ t in
-      let z : ◌≡◌ {A = ℕ} 0 1 = cc in omega arith
+      grind arith
 
   clear_new : (d : Option ℕ) → false ≡ awaited_destination (meaning_of h) d → clear (first_progress d) d [] ≡ true
   clear_new None k = refl

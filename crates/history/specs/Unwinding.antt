@@ -111,8 +111,8 @@ pub newest_none : (r : ℕ) (xs : List HistoryRecord) → None ≡ last_index (�
 newest_none r xs h = ap (progress_at xs) h ∙ found_progress r xs
 
 or_none : (o : Option Progress) (b : Bool) (s : Progress) → or_else o (cond b (Some s) None) ≡ None → (b ≡ false) × (o ≡ None)
-or_none (Some y) b s h = let z : ◌≡◌ {A = ℕ} 0 1 = cc in absurd (omega arith)
-or_none None true s h = let z : ◌≡◌ {A = ℕ} 0 1 = cc in absurd (omega arith)
+or_none (Some y) b s h = grind arith
+or_none None true s h = grind arith
 or_none None false s h = (refl, refl)
 
 pub none_named : (r : ℕ) (xs : List HistoryRecord) → newest_progress r xs ≡ None → named r xs ≡ false
@@ -150,19 +150,19 @@ unfinished (Some (Failed f)) = true
 
 held_seen : (o : Option Entry) (n : Option Progress) (w : ℕ) → status_in o ≡ seen n w → held_up o ≡ unfinished n
 held_seen None None w h = refl
-held_seen None (Some p) w h = let z : ◌≡◌ {A = ℕ} 0 1 = cc in absurd (omega arith)
-held_seen (Some e) None w h = let z : ◌≡◌ {A = ℕ} 0 1 = cc in absurd (omega arith)
+held_seen None (Some p) w h = grind arith
+held_seen (Some e) None w h = grind arith
 held_seen (Some e) (Some Waiting) w h = let q : e.status ≡ Pending = cc in ap unready q
 held_seen (Some e) (Some Finished) w h = let q : e.status ≡ Done w = cc in ap unready q
 held_seen (Some e) (Some (Failed f)) w h = let q : e.status ≡ Faulted f = cc in ap unready q
 
 word_seen : (o : Option Entry) (n : Option Progress) (v w : ℕ) → status_in o ≡ seen n w → unfinished n ≡ false → (n ≡ None → v ≡ w) → word_in o v ≡ w
 word_seen None None v w h u k = k refl
-word_seen None (Some p) v w h u k = let z : ◌≡◌ {A = ℕ} 0 1 = cc in absurd (omega arith)
-word_seen (Some e) None v w h u k = let z : ◌≡◌ {A = ℕ} 0 1 = cc in absurd (omega arith)
-word_seen (Some e) (Some Waiting) v w h u k = let z : ◌≡◌ {A = ℕ} 0 1 = cc in absurd (omega arith)
+word_seen None (Some p) v w h u k = grind arith
+word_seen (Some e) None v w h u k = grind arith
+word_seen (Some e) (Some Waiting) v w h u k = grind arith
 word_seen (Some e) (Some Finished) v w h u k = let q : e.status ≡ Done w = cc in ap word_of q
-word_seen (Some e) (Some (Failed f)) v w h u k = let z : ◌≡◌ {A = ℕ} 0 1 = cc in absurd (omega arith)
+word_seen (Some e) (Some (Failed f)) v w h u k = grind arith
 
 -- what the search over the records tells
 module _ (t r : ℕ) (xs : List HistoryRecord) (ws : List ℕ) where

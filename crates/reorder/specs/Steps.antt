@@ -26,17 +26,17 @@ waits_at (s ∷ ss) zero l = refl
 waits_at (s ∷ ss) (suc i) l = waits_at ss i (omega arith)
 
 within_waits : (ss : List Slot) (i : ℕ) → waits (slice_get ss i) ≡ true → i < length ss
-within_waits [] i h = let z : ◌≡◌ {A = ℕ} 0 1 = cc in absurd (omega arith)
+within_waits [] i h = grind arith
 within_waits (s ∷ ss) zero h = omega arith
 within_waits (s ∷ ss) (suc i) h = let l = within_waits ss i h in omega arith
 
 pending_is : (s : Status) → is_pending s ≡ true → s ≡ Pending
 pending_is Pending h = refl
-pending_is (Done w) h = let z : ◌≡◌ {A = ℕ} 0 1 = cc in absurd (omega arith)
-pending_is (Faulted f) h = let z : ◌≡◌ {A = ℕ} 0 1 = cc in absurd (omega arith)
+pending_is (Done w) h = grind arith
+pending_is (Faulted f) h = grind arith
 
 none_cond : (b : Bool) (i : ℕ) → None ≡ cond b (Some i) None → b ≡ false
-none_cond true i h = let z : ◌≡◌ {A = ℕ} 0 1 = cc in absurd (omega arith)
+none_cond true i h = grind arith
 none_cond false i h = refl
 
 module _ (b : Buffer) where

@@ -1,4 +1,5 @@
-// A slot as it stands in the buffer: `ArrayVec` fills the places that are not in use with the default of its type.
+// A slot as it stands in the buffer. `ArrayVec` fills its unused places with a default, and only a type of this crate can
+// be given one here.
 ghost use Rattle.std.specs.Prelude.{◌≡◌};
 ghost use Rattle.recovery.specs.declared.slots.Slot.{Slot};
 ghost use Rattle.recovery.specs.Slots.{slot_names};
