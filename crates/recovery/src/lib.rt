@@ -19,8 +19,9 @@ pub enum Timing {
 }
 
 // What an entry in flight has come to.
-#[derive(Clone, Copy, PartialEq, Eq, Debug)]
+#[derive(Clone, Copy, PartialEq, Eq, Debug, Default)]
 pub enum Status {
+    #[default]
     Pending,
     Done(u32),
     Faulted(Fault),

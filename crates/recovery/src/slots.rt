@@ -8,7 +8,7 @@ use crate::search::Naming;
 use isa::fault::Fault;
 
 // One entry in flight. Its tag is not stored: the tags count up, modulo 256, from the oldest entry's.
-#[derive(Clone, Copy, PartialEq, Eq, Debug)]
+#[derive(Clone, Copy, PartialEq, Eq, Debug, Default)]
 pub struct Slot {
     pub counter: u16,
     pub destination: Option<u8>,

@@ -11,7 +11,7 @@ use Rattle.reorder.specs.declared.buffer.Buffer.{Buffer}
 
 -- the slots are the flight
 abbrev pub mean : Buffer → Meaning
-mean b = record { settled = b.settled; capacity = b.capacity; flight = flight_of b.first b.places.items }
+mean b = record { settled = b.settled; capacity = b.capacity; flight = flight_of b.first b.slots.items }
 
 -- the status of the youngest entry that names a register
 abbrev pub newest_status : Buffer → ℕ → Option Status
@@ -35,8 +35,8 @@ waits (Some s) = is_pending s.status
 
 -- the place of the pending entry of a tag
 abbrev pub taker_at : Buffer → ℕ → Option ℕ
-taker_at b t = cond (waits (slice_get b.places.items (distance b t))) (Some (distance b t)) None
+taker_at b t = cond (waits (slice_get b.slots.items (distance b t))) (Some (distance b t)) None
 
 -- the pending slot of a tag
 abbrev pub taken_slot : Buffer → ℕ → Option Slot
-taken_slot b t = option_and_then (slice_get b.places.items) (taker_at b t)
+taken_slot b t = option_and_then (slice_get b.slots.items) (taker_at b t)

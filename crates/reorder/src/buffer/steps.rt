@@ -3,7 +3,7 @@ ghost use Rattle.std.specs.Prelude.{◌≡◌, ◌≤◌};
 ghost use Rattle.recovery.specs.Meaning.{blank, fresh, start_answer, start_leaves, place_answer, place_leaves, awaited_source, awaited_destination, Admits, deliver_answer, deliver_leaves, look_answer, oldest_answer, retire_answer, retire_leaves, backed_out};
 ghost use Rattle.reorder.specs.Mean.{mean, newest_status, readable_word, taker_at, taken_slot};
 
-use super::{Buffer, Place};
+use super::Buffer;
 use arrayvec::ArrayVec;
 use isa::fault::Fault;
 use recovery::search::youngest;
@@ -30,7 +30,7 @@ impl Buffer {
             settled: [0; 16],
             capacity,
             first: 0,
-            places: ArrayVec::new(),
+            slots: ArrayVec::new(),
         }
     }
 
@@ -59,7 +59,7 @@ impl Buffer {
         ensures answer { result ≡ place_answer (mean self.old) register }
         ensures leaves { mean self.new ≡ place_leaves (mean self.old) register word }
     {
-        if !self.places.is_empty() || register >= 16 {
+        if !self.slots.is_empty() || register >= 16 {
             return false;
         }
         self.settled[register as usize] = word;
@@ -78,8 +78,8 @@ impl Buffer {
     fn newest(&self, register: u8) -> Option<Status>
         ensures { result ≡ newest_status self.now register }
     {
-        let i = youngest(&self.places, register)?;
-        Some(self.places[i].slot().status)
+        let i = youngest(&self.slots, register)?;
+        Some(self.slots[i].status)
     }
 
     // Whether a source is awaited.
@@ -107,16 +107,16 @@ impl Buffer {
         if self.awaits_destination(destination) {
             return Err(AdmitError::Awaited);
         }
-        if self.places.len() >= self.capacity as usize {
+        if self.slots.len() >= self.capacity as usize {
             return Err(AdmitError::Full);
         }
-        let tag = self.first.wrapping_add(self.places.len() as u8);
+        let tag = self.first.wrapping_add(self.slots.len() as u8);
         let status = status_at_first(destination);
-        self.places.push(Place::of(Slot {
+        self.slots.push(Slot {
             counter,
             destination,
             status,
-        }));
+        });
         Ok(tag)
     }
 
@@ -125,7 +125,7 @@ impl Buffer {
         ensures { result ≡ taker_at self.now tag }
     {
         let i = tag.wrapping_sub(self.first) as usize;
-        let slot = self.places.get(i)?.slot();
+        let slot = self.slots.get(i)?;
         (slot.status == Status::Pending).then_some(i)
     }
 
@@ -134,7 +134,7 @@ impl Buffer {
         ensures { result ≡ taken_slot self.now tag }
     {
         let i = self.taker_at(tag)?;
-        Some(self.places[i].slot())
+        Some(self.slots[i])
     }
 
     // Turns the pending entry of a tag done or faulted; without one it answers no.
@@ -145,9 +145,7 @@ impl Buffer {
         let Some(i) = self.taker_at(tag) else {
             return false;
         };
-        let slot = self.places[i].slot();
-        let status = Status::from(outcome);
-        self.places[i] = Place::of(Slot { status, ..slot });
+        self.slots[i].status = Status::from(outcome);
         true
     }
 
@@ -168,7 +166,7 @@ impl Buffer {
     pub fn oldest(&self) -> Option<u16>
         ensures { result ≡ oldest_answer (mean self.now) }
     {
-        self.places.first().map(|place| place.slot().counter)
+        self.slots.first().map(|slot| slot.counter)
     }
 
     // Settles the oldest entry where it is done; a faulted one is answered and stays.
@@ -176,10 +174,9 @@ impl Buffer {
         ensures answer { result ≡ retire_answer (mean self.old) }
         ensures leaves { mean self.new ≡ retire_leaves (mean self.old) }
     {
-        let Some(place) = self.places.first() else {
+        let Some(&head) = self.slots.first() else {
             return Ok(None);
         };
-        let head = place.slot();
         match head.status {
             Status::Pending => Ok(None),
             Status::Faulted(fault) => Err(Trap {
@@ -188,7 +185,7 @@ impl Buffer {
             }),
             Status::Done(word) => {
                 put_word(&mut self.settled, head.destination, word);
-                self.places.remove(0);
+                self.slots.remove(0);
                 self.first = self.first.wrapping_add(1);
                 Ok(Some(head.counter))
             }
@@ -199,6 +196,6 @@ impl Buffer {
     pub fn back_out(&mut self)
         ensures { mean self.new ≡ backed_out (mean self.old) }
     {
-        self.places.clear();
+        self.slots.clear();
     }
 }

@@ -13,4 +13,6 @@ bounds-deref-i c =
     search rules
 
 pub returns : goal.returns
-returns c = newest_some c.args.self.now c.args.register c.in_ok-i.i c.slot.result (search rules) (search rules)
+returns c =
+    let h = newest_some c.args.self.now c.args.register c.in_ok-i.i (search rules) in
+    search rules
