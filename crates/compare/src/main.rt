@@ -21,6 +21,7 @@ const JOBS: u32 = 1000;
 
 fn play_all(alloc: Global) -> Result<Findings, AllocError> {
     let mut findings = Findings::new();
+    // two lists, each in its order: a macro for two would be longer
     for number in 0..JOBS {
         play::<ReorderBuffer>(alloc, number, &mut findings)?;
         play::<BypassBuffer>(alloc, number, &mut findings)?;

@@ -114,6 +114,7 @@ fn read_tail(
     Ok((counter, cause, count))
 }
 
+// A function, and no TryFrom: it stands beside `write_image`, which fills a lent buffer, as the calls name the two.
 // The state of an image. Words of another number than 36 are refused first, then the first word that breaks its rule.
 pub fn read_image(words: &[u32]) -> Result<State, Refusal>
     ensures { snapshots result ≡ read_words words.now }

@@ -1,12 +1,13 @@
 // Reading a job from bytes, and writing it.
 ghost use Rattle.std.specs.Prelude.{◌≡◌, ◌/◌, length, IfOk};
 ghost use Rattle.jobfile.specs.Jobs.{read_job, job_in, job_bytes, WriteThenRead};
-ghost use Rattle.jobfile.specs.Held.{held, held_in};
+ghost use Rattle.jobfile.specs.Held.{held, held_in, setup_of};
 
 use crate::bytes::{push_words, words_of};
 use crate::order::Job;
 use crate::scheme::Scheme;
 use crate::setting::Setting;
+use pickcore::setup::Setup;
 use std::alloc::{AllocError, Global};
 
 // The job that some bytes hold, if they hold one.
@@ -61,6 +62,18 @@ fn job_in(alloc: Global, many: usize, words: &[u32]) -> Result<Option<Job>, Allo
 }
 
 impl Job {
+    // What a core is loaded with for the job.
+    pub fn setup(&self) -> Setup
+        ensures { result ≡ setup_of (held self.now) }
+    {
+        Setup::new(
+            self.setting.delays,
+            self.setting.capacity,
+            self.program.as_slice(),
+            self.words.as_slice(),
+        )
+    }
+
     // The bytes that hold the job.
     pub fn bytes(&self, alloc: Global) -> Result<Vec<u8>, AllocError>
         ensures { IfOk result (λ v. v.items ≡ job_bytes (held self.now)) }

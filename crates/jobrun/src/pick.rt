@@ -10,9 +10,7 @@ use jobfile::job::read_job;
 use jobfile::lines::{CycleLine, DeclinedLine, StopLine};
 use jobfile::order::Job;
 use jobfile::scheme::Scheme;
-use jobfile::setting::Setting;
 use pickcore::record::{CycleRecord, Report};
-use pickcore::setup::Setup;
 use pickcore::state::Core;
 use recovery::Recovery;
 use reorder::{BypassBuffer, ReorderBuffer};
@@ -46,8 +44,9 @@ fn push_last(text: &mut String, report: Result<Report, Refusal>) -> Result<(), A
 fn run_on<S: Recovery + Drop>(alloc: Global, job: Job) -> Result<String, AllocError>
     ensures { IfOk result (λ s. PrintsBy S.MARK (held job) (refused (held job)) (string_bytes s)) }
 {
+    let setup = job.setup();
     let Job {
-        setting,
+        setting: _,
         program,
         mut words,
         cycles,
@@ -55,17 +54,7 @@ fn run_on<S: Recovery + Drop>(alloc: Global, job: Job) -> Result<String, AllocEr
     let program = program.as_slice();
     let data = words.as_mut_slice();
     let mut core: Core<S> = Core::new();
-    let Setting {
-        scheme: _,
-        delays,
-        capacity,
-    } = setting;
-    let loaded = core.load(Setup {
-        delays,
-        capacity,
-        program_length: program.len() as u32,
-        data_length: data.len() as u32,
-    });
+    let loaded = core.load(setup);
     if let Err(refusal) = loaded {
         return DeclinedLine(refusal).to_string(alloc);
     }

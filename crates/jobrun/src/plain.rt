@@ -10,8 +10,6 @@ use isa::plain::PlainMachine;
 use jobfile::job::read_job;
 use jobfile::lines::{DeclinedLine, HexWord};
 use jobfile::order::Job;
-use jobfile::setting::Setting;
-use pickcore::setup::Setup;
 use pickcore::state::Core;
 use reorder::BypassBuffer;
 use std::alloc::{AllocError, Global};
@@ -71,24 +69,15 @@ fn run_plain(
 fn plain_job(alloc: Global, job: Job) -> Result<String, AllocError>
     ensures { IfOk result (λ s. string_bytes s ≡ plain_by (held job) (refused (held job))) }
 {
+    let setup = job.setup();
     let Job {
-        setting,
+        setting: _,
         program,
         mut words,
         cycles,
     } = job;
     let mut core: Core<BypassBuffer> = Core::new();
-    let Setting {
-        scheme: _,
-        delays,
-        capacity,
-    } = setting;
-    let loaded = core.load(Setup {
-        delays,
-        capacity,
-        program_length: program.len() as u32,
-        data_length: words.len() as u32,
-    });
+    let loaded = core.load(setup);
     if let Err(refusal) = loaded {
         return DeclinedLine(refusal).to_string(alloc);
     }

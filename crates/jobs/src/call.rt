@@ -6,7 +6,7 @@ use isa::refusal::Refusal;
 use pickcore::record::{CycleRecord, Report};
 
 // A call; the program, the data words and the list of records are those that the whole list of calls is lent.
-#[derive(Drop)]
+#[derive(PartialEq, Eq, Debug, Drop)]
 pub enum Call {
     // one cycle
     Step,

@@ -119,6 +119,8 @@ impl From<Refusal> for NotPlayed {
 // words of each `Data` to the list for copies; where one of the latter two is full, a run makes no further cycle and a
 // `Data` no further copy. It allocates nothing.
 //
+// The lists are lent one by one: a struct of five `&mut` would have each clause speak of its loan.
+//
 // Whatever the calls are, every report among them agrees with the plain machine beside the core.
 pub fn play<S: Recovery>(
     core: &mut Core<S>,

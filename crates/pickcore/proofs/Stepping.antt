@@ -1,5 +1,5 @@
 -- A step from its parts.
-use Rattle.std.proofs.Common.{◌≡◌, ℕ, List, length, Some, None, Ok, Err, Option, refl, ap, ◌∙◌}
+use Rattle.std.proofs.Common.{◌≡◌, ℕ, List, length, Some, None, Ok, Err, Option, refl, ap, ◌∙◌, arith}
 use Rattle.isa.specs.declared.refusal.Refusal.{Refusal}
 use Rattle.recovery.specs.declared.Timing.{Timing}
 use Rattle.pickcore.specs.declared.record.CycleRecord.{CycleRecord}
@@ -8,7 +8,7 @@ use Rattle.pickcore.specs.declared.record.Ending.{Ending}
 use Rattle.pickcore.specs.declared.record.Ending.TheVariants.{Issued, Stored, Held, Stopped}
 use Rattle.pickcore.specs.Record.{record_of}
 use Rattle.pickcore.specs.Cycle.{Pipe, cycle, retires, flight_at_admission, Chosen}
-use Rattle.pickcore.specs.Calls.{Machine, goes_on, after_ending, step_refusal, turned, step_by, Steps}
+use Rattle.pickcore.specs.Calls.{Machine, accepted, goes_on, after_ending, step_refusal, turned, step_by, Steps}
 use Rattle.pickcore.specs.Model.{setting}
 use Rattle.pickcore.proofs.Tags.{fresh_tag, freely}
 
@@ -30,6 +30,15 @@ module _ (k : Timing) (m : Machine) (program ws : List ℕ) where
             ∙ (ap (λ y. record { answer = Ok (record_of (retires m.pipe) e); machine = y; words = vs }) ne
             ∙ (ap (turned m) f.2 ∙ ap (step_by k m program ws f.0) h));
       }
+
+-- what is accepted has no refusal, and what is declined has this one
+pub accepted_none : (o : Option Refusal) (u : Unit {0}) → Ok u ≡ accepted o → None ≡ o
+accepted_none None u e = refl
+accepted_none (Some x) u e = grind arith
+
+pub declined_some : (o : Option Refusal) (x : Refusal) → Err x ≡ accepted o → Some x ≡ o
+declined_some None x e = grind arith
+declined_some (Some y) x e = let q : x ≡ y = cc in ap Some q
 
 pub still_going : (m : Machine) (p : Pipe) (e : Ending) → ((c : Cause) → e ≡ Stopped c → ⊥) → after_ending m p e ≡ goes_on m p
 still_going m p (Issued c) h = refl

@@ -142,22 +142,22 @@ impl<S: Recovery> Core<S> {
         })
     }
 
-    // Why a step would be declined, if it would.
-    fn step_refusal(&self, program_length: usize, data_length: usize) -> Option<Refusal>
-        ensures { result ≡ step_refusal (machine_of S.meaning self.now) program_length data_length }
+    // Whether a step is accepted, for lists of these lengths.
+    fn may_step(&self, program_length: usize, data_length: usize) -> Result<(), Refusal>
+        ensures { result ≡ accepted (step_refusal (machine_of S.meaning self.now) program_length data_length) }
     {
         if !self.running {
-            return Some(Refusal::Stopped);
+            return Err(Refusal::Stopped);
         }
         if program_length != self.program_length as usize
             || data_length != self.data_length as usize
         {
-            return Some(Refusal::Length);
+            return Err(Refusal::Length);
         }
         if self.cycles >= 1000000 {
-            return Some(Refusal::Stretch);
+            return Err(Refusal::Stretch);
         }
-        None
+        Ok(())
     }
 
     // Moves the core by one cycle, and tells what it did.
@@ -165,9 +165,7 @@ impl<S: Recovery> Core<S> {
         ensures steps { Steps S.MARK (machine_of S.meaning self.old) program.now «data».old (record { answer = result; machine = machine_of S.meaning self.new; words = «data».new }) }
         ensures same { is_err result ≡ true → self.new ≡ self.old }
     {
-        if let Some(refusal) = self.step_refusal(program.len(), data.len()) {
-            return Err(refusal);
-        }
+        self.may_step(program.len(), data.len())?;
         let (retired, ending) = self.pipe.cycle(&self.delays, self.requested, program, data);
         let record = CycleRecord::new(retired, ending);
         self.cycles += 1;
@@ -236,9 +234,7 @@ impl<S: Recovery> Core<S> {
         ensures runs { Runs S.MARK program.now (machine_of S.meaning self.old) «data».old records.old result records.new (machine_of S.meaning self.new) «data».new }
         ensures same { is_err result ≡ true → self.new ≡ self.old }
     {
-        if let Some(refusal) = self.step_refusal(program.len(), data.len()) {
-            return Err(refusal);
-        }
+        self.may_step(program.len(), data.len())?;
         Ok(self.fill(program, data, records))
     }
 
@@ -256,6 +252,7 @@ impl<S: Recovery> Core<S> {
     }
 
     // All sixteen words with number 0, or sixteen zeros with a refusal's number.
+    // A pair, and no Result: by a rule of the project the words stand by value with a number beside them.
     pub fn registers(&self) -> ([u32; 16], u32)
         ensures value { result ≡ registers_answer S.MARK (machine_of S.meaning self.now) }
         ensures settled { self.now.running ≡ false → result ≡ ((S.meaning self.now.pipe.scheme).settled, 0) }

@@ -5,6 +5,7 @@ use jobrun::plain::plainrun;
 use std::io;
 use std::io::Read;
 
+// Five lines as in the other programs: a shared function would bring input and output into a library that has none.
 fn main(rt: HostRuntime) -> io::Result<()> {
     let mut bytes = Vec::new(rt.alloc());
     let _many = rt.stdin().read_to_end(&mut bytes)?;

@@ -19,6 +19,7 @@ pub enum Timing {
 }
 
 // What an entry in flight has come to.
+// Its own enum, though of the shape of Option<Result<u32, Fault>>: three states with names, which searches wrap once more.
 #[derive(Clone, Copy, PartialEq, Eq, Debug, Default)]
 pub enum Status {
     #[default]

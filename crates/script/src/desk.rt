@@ -14,7 +14,7 @@ use jobs::call::Call;
 use std::alloc::Global;
 
 // The setting of a core, a program, its data words, and the calls.
-#[derive(Drop)]
+#[derive(PartialEq, Eq, Debug, Drop)]
 pub struct Script {
     pub setting: Setting,
     pub program: Vec<u32>,

@@ -1,6 +1,7 @@
-use Rattle.std.proofs.Common.{◌≡◌, length, vec_items, sym, ap, ◌∙◌}
+use Rattle.std.proofs.Common.{sym, ap, ◌∙◌}
 use Rattle.std.proofs.lemmas.Result.{IfOk-weaker}
 use Rattle.pickcore.specs.Calls.{accepted, load_refusal, unloaded}
+use Rattle.pickcore.specs.declared.setup.Setup.{Setup}
 use Rattle.jobfile.specs.Held.{held}
 use Rattle.jobrun.specs.Runs.{plain_by}
 use Rattle.jobrun.proofs.Picks.{turned_down}
@@ -8,11 +9,7 @@ use Rattle.jobrun.proofs.plain.plain_job.Goals as goal
 
 pub returns-in-Err : goal.returns-in-Err
 returns-in-Err c =
-    let j = c.args.job in
-    let p : c.len.result ≡ length (vec_items c.args.job.program) = c.len.ensures ∙ c.args.job.program.ok.0 in
-    let w : c.len-2.result ≡ length (vec_items c.args.job.words) = c.len-2.ensures ∙ c.args.job.words.ok.0 in
     let a = c.in-Err.ensures.answer
-    ∙ (ap (λ m. accepted (load_refusal m c.args.job.setting.delays c.args.job.setting.capacity c.len.result c.len-2.result)) c.new-core.ensures
-    ∙ (ap (λ n. accepted (load_refusal unloaded c.args.job.setting.delays c.args.job.setting.capacity n c.len-2.result)) p
-    ∙ ap (λ n. accepted (load_refusal unloaded c.args.job.setting.delays c.args.job.setting.capacity (length (vec_items c.args.job.program)) n)) w)) in
+    ∙ (ap (λ m. accepted (load_refusal m c.setup-setup.result.delays c.setup-setup.result.capacity c.setup-setup.result.program_length c.setup-setup.result.data_length)) c.new-core.ensures
+    ∙ ap (λ (s : Setup). accepted (load_refusal unloaded s.delays s.capacity s.program_length s.data_length)) c.setup-setup.ensures) in
     IfOk-weaker c.to_string.result _ _ (λ s e. e ∙ sym (ap (plain_by (held c.args.job)) (turned_down (held c.args.job) c.in-Err.refusal a))) c.to_string.ensures.ok
