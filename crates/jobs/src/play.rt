@@ -79,6 +79,7 @@ fn make_all<S: Recovery>(
 {
     let mut totals = Totals::none();
     let mut last = None;
+    // tried as a zip: the answers given so far then stand behind its borrow, where the invariant does not reach them
     for (i, call) in calls.iter().enumerate() {
         let ran = core.report().is_err();
         let answer = make(
