@@ -129,6 +129,7 @@ impl Covered {
     }
 
     // An instruction that issued.
+    // Its kind is a number here: the top four bits of any word, and a place in the list.
     pub fn issue(&mut self, kind: u32) {
         count(&mut self.kinds, kind);
     }

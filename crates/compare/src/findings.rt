@@ -58,6 +58,7 @@ impl fmt::Display for What {
 #[derive(Clone, Copy, Default)]
 struct Place {
     job: Tally,
+    // a number, and no enum: it is only printed, and each scheme is a type with its number
     scheme: u32,
     call: Tally,
 }

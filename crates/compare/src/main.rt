@@ -19,19 +19,22 @@ use std::io;
 // Each is played under every scheme.
 const JOBS: u32 = 1000;
 
+// Plays something under each of the four schemes, by number.
+macro_rules! under_each_scheme {
+    ($play:ident($($argument:expr),*)) => {
+        $play::<ReorderBuffer>($($argument),*)?;
+        $play::<BypassBuffer>($($argument),*)?;
+        $play::<HistoryBuffer>($($argument),*)?;
+        $play::<FutureFile>($($argument),*)?;
+    };
+}
+
 fn play_all(alloc: Global) -> Result<Findings, AllocError> {
     let mut findings = Findings::new();
-    // two lists, each in its order: a macro for two would be longer
     for number in 0..JOBS {
-        play::<ReorderBuffer>(alloc, number, &mut findings)?;
-        play::<BypassBuffer>(alloc, number, &mut findings)?;
-        play::<HistoryBuffer>(alloc, number, &mut findings)?;
-        play::<FutureFile>(alloc, number, &mut findings)?;
+        under_each_scheme!(play(alloc, number, &mut findings));
     }
-    play_stretch::<ReorderBuffer>(alloc, &mut findings)?;
-    play_stretch::<BypassBuffer>(alloc, &mut findings)?;
-    play_stretch::<HistoryBuffer>(alloc, &mut findings)?;
-    play_stretch::<FutureFile>(alloc, &mut findings)?;
+    under_each_scheme!(play_stretch(alloc, &mut findings));
     Ok(findings)
 }
 

@@ -27,6 +27,7 @@ fn write_registers(registers: &[u32], buffer: &mut [u32])
     ensures words { buffer.new ≡ register_words 0 registers.now ++ drop 32 buffer.old }
     ensures fit { AllByRecursion (λ x. x < 2 ^ 32) registers.now }
 {
+    // By index, and no zip with pairs of words: the index is the register's number, which both words hold.
     for (register, value) in registers.iter().enumerate() {
         let number = register as u32;
         buffer[2 * register] = word_of(WordKind::LowHalf, number, *value & MOST_HALF);
