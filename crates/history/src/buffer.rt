@@ -5,7 +5,7 @@ ghost use Rattle.history.specs.Unwind.{guarded};
 use arrayvec::ArrayVec;
 use isa::fault::Fault;
 
-// How far an instruction in flight has come. It is no `Status`, since its word is in the file and not kept here.
+// How far an instruction in flight has come. Its word is in the file, so it is not kept here.
 #[derive(Clone, Copy, PartialEq, Eq, Debug, Default)]
 pub enum Progress {
     #[default]

@@ -68,6 +68,7 @@ fn read_register(low: u32, high: u32, register: u32) -> Result<u32, BadWord>
 }
 
 // The registers from `register` on, two words for each.
+// By recursion, and no loop over pairs: those who use images fixed this form, the front of what is left.
 fn read_registers(words: &[u32], register: u32, registers: &mut [u32]) -> Result<(), BadWord>
     requires { (length registers.old ≡ 16) × (length words.now + 2 * register ≡ 32) }
     ensures { with_registers registers.new result ≡ onto registers.old register (registers_read register words.now) }
@@ -114,7 +115,7 @@ fn read_tail(
     Ok((counter, cause, count))
 }
 
-// A function, and no TryFrom: it stands beside `write_image`, which fills a lent buffer, as the calls name the two.
+// A function, and no TryFrom: `State::try_from(words)` would not say that an image is read, as its twin `write_image` does.
 // The state of an image. Words of another number than 36 are refused first, then the first word that breaks its rule.
 pub fn read_image(words: &[u32]) -> Result<State, Refusal>
     ensures { snapshots result ≡ read_words words.now }

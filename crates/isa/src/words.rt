@@ -43,7 +43,7 @@ fn fields(word: u32) -> (u8, u8, u8, u8, u16)
 
 // The kind of a word and its fields d, a, b and n; a word whose kind is above 11, or that has another bit than its
 // kind uses, is no instruction.
-// A tuple, and no struct: by a rule of the project the kind and its four fields are answered together.
+// A tuple, and no struct: those who call it fixed this form, the kind and its four fields together.
 pub fn read_word(word: u32) -> Result<(Kind, u8, u8, u8, u16), Refusal>
     ensures { result ≡ decoded word }
 {

@@ -79,7 +79,7 @@ fn make_all<S: Recovery>(
 {
     let mut totals = Totals::none();
     let mut last = None;
-    // tried as a zip: the answers given so far then stand behind its borrow, where the invariant does not reach them
+    // by index: tried as a zip, whose borrow hides the answers given so far from the invariant, and the proof did not close
     for (i, call) in calls.iter().enumerate() {
         let ran = core.report().is_err();
         let answer = make(
@@ -120,7 +120,7 @@ impl From<Refusal> for NotPlayed {
 // words of each `Data` to the list for copies; where one of the latter two is full, a run makes no further cycle and a
 // `Data` no further copy. It allocates nothing.
 //
-// The lists are lent one by one: a struct of five `&mut` would have each clause speak of its loan.
+// The lists are lent one by one: a struct of four `&mut` would have each clause speak of its loan.
 //
 // Whatever the calls are, every report among them agrees with the plain machine beside the core.
 pub fn play<S: Recovery>(
@@ -144,8 +144,6 @@ pub fn play<S: Recovery>(
 }
 
 // Every list of calls on a core just loaded is precise, over every scheme, whatever tags it chose.
-pub fn lists_are_precise() -> u8
+pub fn lists_are_precise()
     ensures { ListsArePrecise }
-{
-    0
-}
+{}

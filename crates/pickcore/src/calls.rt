@@ -252,7 +252,7 @@ impl<S: Recovery> Core<S> {
     }
 
     // All sixteen words with number 0, or sixteen zeros with a refusal's number.
-    // A pair, and no Result: by a rule of the project the words stand by value with a number beside them.
+    // A pair, and no Result: those who call it fixed this form, the words by value with a number beside them.
     pub fn registers(&self) -> ([u32; 16], u32)
         ensures value { result ≡ registers_answer S.MARK (machine_of S.meaning self.now) }
         ensures settled { self.now.running ≡ false → result ≡ ((S.meaning self.now.pipe.scheme).settled, 0) }

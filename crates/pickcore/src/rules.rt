@@ -17,7 +17,7 @@ use isa::unit::UNITS;
 use isa::words::{Kind, read_word};
 use recovery::{Recovery, Trap};
 
-// Delays, program and data words are passed one by one: a struct would hold a `&mut`, and each clause speak of its loan.
+// Program and data words are passed one by one: a struct would hold a `&mut`, and each clause speak of its loan.
 // The bounds on the count are clauses, no invariant: it may rise twice within a cycle, and the core's type bounds it between.
 impl<S: Recovery> Pipeline<S> {
     // One cycle: the counter that retired, and how it ended. A hold or a stop ends it.

@@ -6,38 +6,30 @@ ghost use Rattle.precision.specs.Lists.{StepsAgree, CutsAgree, NeverStandsStill,
 ghost use Rattle.precision.specs.Precise.{LivesArePrecise, StoppedCoresAgree};
 
 // A stopped core has the registers, the data words and the counter of the plain machine, and its fault, if any.
-pub fn cycle_is_precise() -> u8
+pub fn cycle_is_precise()
     ensures settings { SettingsAreFit }
     ensures starts { StartsBeside }
     ensures cycles { CycleIsPrecise }
     ensures cuts { CutIsPrecise }
-{
-    0
-}
+{}
 
 // A core that runs gets on, or stops, within the longest delay.
-pub fn waits_are_short() -> u8
+pub fn waits_are_short()
     ensures starts { StartsWithin }
     ensures cycles { WaitsAreShort }
-{
-    0
-}
+{}
 
 // The same through any list of calls: loads, steps, runs, requests, cuts, amends and resumes, accepted and declined.
-pub fn lists_are_precise() -> u8
+pub fn lists_are_precise()
     ensures steps { StepsAgree }
     ensures cuts { CutsAgree }
     ensures moves { NeverStandsStill }
     ensures runs { RunsAreSteps }
-{
-    0
-}
+{}
 
 // The same through the whole life of a core that was just loaded, whatever is done to it: every report agrees with the
 // plain machine beside it, and so does every stopped core.
-pub fn lives_are_precise() -> u8
+pub fn lives_are_precise()
     ensures reports { LivesArePrecise }
     ensures stopped { StoppedCoresAgree }
-{
-    0
-}
+{}

@@ -42,6 +42,7 @@ pub struct Trap {
     pub fault: Fault,
 }
 
+// Yes or no, and no errors, where the meaning has no reason for a no.
 pub trait Recovery: Sized {
     // the scheme's mark: one for all its values
     const MARK: Timing;

@@ -136,7 +136,7 @@ pub struct Second {
 
 impl Second {
     /// A core never loaded, of a scheme from 1 to 4; any other number counts as 1.
-    // Kept: a job names its scheme by number, and a core is made for every number.
+    // A number, and no enum: here the four schemes differ in one thing, so that an enum would be matched to be two again.
     pub fn new(scheme: u32) -> Second {
         Second::at_rest((2..=4).contains(&scheme), Setting::least())
     }

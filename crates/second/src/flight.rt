@@ -28,7 +28,7 @@ impl Flying {
 }
 
 /// The slots that are taken come before those that are free.
-// Kept: a core is Copy, in fixed memory, which neither a Vec nor an ArrayVec is.
+// Kept: an ArrayVec asks for a default of what it holds, which a result on its way has not.
 #[derive(Clone, Copy)]
 pub struct Flight {
     slots: [Option<Flying>; 16],

@@ -57,11 +57,6 @@ pub struct Outcome {
     pub data: [u32; 4],
 }
 
-// A length that a core is loaded with; one that is too long is declined there.
-fn length_of(words: &[u32]) -> u32 {
-    u32::try_from(words.len()).unwrap_or(u32::MAX)
-}
-
 // Loads a core with a setting, for a program and data words of these lengths.
 pub fn load<S: Recovery>(
     core: &mut Core<S>,
@@ -85,7 +80,7 @@ pub fn started<S: Recovery + Drop>(
     data: &[u32],
 ) -> Result<Core<S>, Refusal> {
     let mut core: Core<S> = Core::new();
-    load(&mut core, setting, length_of(program), length_of(data))?;
+    core.load(Setup::new(setting.delays, setting.capacity, program, data))?;
     core.resume(0)?;
     Ok(core)
 }
@@ -136,24 +131,11 @@ fn core_outcome<S: Recovery + Drop>(
     outcome_of(&core, data)
 }
 
-// Steps until a fault, two thousand times at most; how many steps there were, and the fault.
-fn run_plain(
-    machine: &mut PlainMachine,
-    program: &[u32],
-    data: &mut [u32],
-) -> Option<(u32, Fault)> {
-    for count in 0..2000 {
-        if let Err(fault) = machine.step(program, data) {
-            return Some((count, fault));
-        }
-    }
-    None
-}
-
 // The outcome on the plain machine, if it comes to a fault.
 fn plain_outcome(program: &[u32], mut data: [u32; 4]) -> Option<Outcome> {
     let mut machine = PlainMachine::new();
-    let (count, fault) = run_plain(&mut machine, program, &mut data)?;
+    let (count, stepped) = machine.run(program, &mut data, 2000);
+    let fault = stepped.err()?;
     Some(Outcome {
         cause: Some(Cause::Fault(fault)),
         counter: machine.counter,

@@ -2,23 +2,39 @@
 use crate::bench::{BLANK, EXAMPLE, SETTING, Setting, started, stopped, under_each_scheme};
 use isa::fault::{Cause, Fault};
 use isa::refusal::Refusal;
-use pickcore::record::{CycleRecord, Ending, Hold, Report};
+use pickcore::record::{CycleRecord, Hold, Report};
 use pickcore::state::Core;
 use recovery::Recovery;
 use std::process::Abort;
 use std::test::Fail;
 
+// Written out, and not by the constructor, which is under test here.
 // A cycle in which an instruction issues, is held, or stops the core.
 fn issues(retired: Option<u16>, at: u16) -> CycleRecord {
-    CycleRecord::new(retired, Ending::Issued(at))
+    CycleRecord {
+        retired,
+        issued: Some(at),
+        hold: None,
+        cause: None,
+    }
 }
 
 fn holds(retired: Option<u16>, hold: Hold) -> CycleRecord {
-    CycleRecord::new(retired, Ending::Held(hold))
+    CycleRecord {
+        retired,
+        issued: None,
+        hold: Some(hold),
+        cause: None,
+    }
 }
 
 fn stops(retired: Option<u16>, fault: Fault) -> CycleRecord {
-    CycleRecord::new(retired, Ending::Stopped(Cause::Fault(fault)))
+    CycleRecord {
+        retired,
+        issued: None,
+        hold: None,
+        cause: Some(Cause::Fault(fault)),
+    }
 }
 
 // The first cycles of a program with one data word.

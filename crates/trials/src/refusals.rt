@@ -2,7 +2,7 @@
 use crate::bench::{BLANK, SETTING, Setting, load, started, stopped, under_each_scheme};
 use isa::fault::{Cause, Fault};
 use isa::refusal::Refusal;
-use pickcore::record::{CycleRecord, Ending};
+use pickcore::record::CycleRecord;
 use pickcore::state::Core;
 use recovery::Recovery;
 use std::process::Abort;
@@ -247,7 +247,12 @@ fn fill_often<S: Recovery>(
 
 // The one cycle that is left, in which a branch to itself retires and issues.
 fn last_cycle<S: Recovery>(rt: &impl Abort, core: &mut Core<S>, program: &[u32]) {
-    let turn = CycleRecord::new(Some(0), Ending::Issued(0));
+    let turn = CycleRecord {
+        retired: Some(0),
+        issued: Some(0),
+        hold: None,
+        cause: None,
+    };
     let mut records = [FILLER; 3];
     let ran = core.run(program, &mut [], &mut records);
     assert_eq!(rt; (ran, records), (Ok(1), [turn, FILLER, FILLER]));
