@@ -26,13 +26,21 @@ abbrev pub counter_text : Option ℕ → List ℕ
 counter_text None = codes "-"
 counter_text (Some n) = decimal n
 
--- a cycle: its number, the retired and the issued counter, and the hold or 0
-abbrev pub cycle_line : ℕ → CycleRecord → List ℕ
-cycle_line i r = decimal i ++ (codes " " ++ (counter_text r.retired ++ (codes " " ++ (counter_text r.issued ++ (codes " " ++ (decimal (hold_or_0 r.hold) ++ codes "\n"))))))
+-- what a cycle did: the retired and the issued counter, and the hold or 0
+abbrev pub cycle_text : CycleRecord → List ℕ
+cycle_text r = counter_text r.retired ++ (codes " " ++ (counter_text r.issued ++ (codes " " ++ decimal (hold_or_0 r.hold))))
 
--- a stop: its cause or 0, the counter and the count
+-- a cycle: its number, and what it did
+abbrev pub cycle_line : ℕ → CycleRecord → List ℕ
+cycle_line i r = decimal i ++ (codes " " ++ (cycle_text r ++ codes "\n"))
+
+-- why, where and after how many instructions a core stopped: the cause or 0, the counter and the count
+abbrev pub report_text : Report → List ℕ
+report_text r = decimal (cause_or_0 r.cause) ++ (codes " " ++ (decimal r.counter ++ (codes " " ++ decimal r.count)))
+
+-- a stop
 abbrev pub stop_line : Report → List ℕ
-stop_line r = codes "stop " ++ (decimal (cause_or_0 r.cause) ++ (codes " " ++ (decimal r.counter ++ (codes " " ++ (decimal r.count ++ codes "\n")))))
+stop_line r = codes "stop " ++ (report_text r ++ codes "\n")
 
 -- a call that was declined, by its number
 abbrev pub declined_line : Refusal → List ℕ

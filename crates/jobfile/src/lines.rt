@@ -1,6 +1,6 @@
 // The lines that a program prints.
 ghost use Rattle.std.specs.Prelude.{Some};
-ghost use Rattle.jobfile.specs.Lines.{hex_word, counter_text, cycle_line, stop_line, declined_line};
+ghost use Rattle.jobfile.specs.Lines.{hex_word, counter_text, cycle_text, cycle_line, report_text, stop_line, declined_line};
 
 use isa::number::number_or_0;
 use isa::refusal::Refusal;
@@ -22,7 +22,22 @@ impl fmt::Display for Counter {
     }
 }
 
-// What one cycle did: its number, the retired and the issued counter, and the hold.
+// What one cycle did: the retired and the issued counter, and the hold.
+#[derive(Clone, Copy, PartialEq, Eq, Debug)]
+pub struct Cycle(pub CycleRecord);
+
+impl fmt::Display for Cycle {
+    ghost output = { λ x. Some (cycle_text x.0) };
+
+    fn fmt<W: fmt::Write>(&self, f: &mut fmt::Formatter<W>) -> fmt::Result {
+        let retired = Counter(self.0.retired);
+        let issued = Counter(self.0.issued);
+        let hold = number_or_0(self.0.hold);
+        write!(f, "{retired} {issued} {hold}")
+    }
+}
+
+// A cycle's number, and what it did.
 #[derive(Clone, Copy, PartialEq, Eq, Debug)]
 pub struct CycleLine {
     pub number: usize,
@@ -33,15 +48,26 @@ impl fmt::Display for CycleLine {
     ghost output = { λ x. Some (cycle_line x.number x.cycle) };
 
     fn fmt<W: fmt::Write>(&self, f: &mut fmt::Formatter<W>) -> fmt::Result {
-        let number = self.number;
-        let retired = Counter(self.cycle.retired);
-        let issued = Counter(self.cycle.issued);
-        let hold = number_or_0(self.cycle.hold);
-        writeln!(f, "{number} {retired} {issued} {hold}")
+        writeln!(f, "{} {}", self.number, Cycle(self.cycle))
     }
 }
 
-// Why, where and after how many instructions the core stopped.
+// Why, where and after how many instructions a core stopped.
+#[derive(Clone, Copy, PartialEq, Eq, Debug)]
+pub struct Stop(pub Report);
+
+impl fmt::Display for Stop {
+    ghost output = { λ x. Some (report_text x.0) };
+
+    fn fmt<W: fmt::Write>(&self, f: &mut fmt::Formatter<W>) -> fmt::Result {
+        let cause = number_or_0(self.0.cause);
+        let counter = self.0.counter;
+        let count = self.0.count;
+        write!(f, "{cause} {counter} {count}")
+    }
+}
+
+// That a core stopped.
 #[derive(Clone, Copy, PartialEq, Eq, Debug)]
 pub struct StopLine(pub Report);
 
@@ -49,10 +75,7 @@ impl fmt::Display for StopLine {
     ghost output = { λ x. Some (stop_line x.0) };
 
     fn fmt<W: fmt::Write>(&self, f: &mut fmt::Formatter<W>) -> fmt::Result {
-        let cause = number_or_0(self.0.cause);
-        let counter = self.0.counter;
-        let count = self.0.count;
-        writeln!(f, "stop {cause} {counter} {count}")
+        writeln!(f, "stop {}", Stop(self.0))
     }
 }
 

@@ -6,8 +6,7 @@ use Rattle.isa.specs.declared.refusal.Refusal.TheVariants as refusal
 use Rattle.isa.specs.Numbers.{cause_or_0}
 use Rattle.pickcore.specs.declared.record.CycleRecord.{CycleRecord}
 use Rattle.pickcore.specs.declared.record.Report.{Report}
-use Rattle.pickcore.specs.Record.{hold_or_0}
-use Rattle.jobfile.specs.Lines.{numbered, counter_text, hex_word}
+use Rattle.jobfile.specs.Lines.{numbered, cycle_text, report_text, hex_word}
 use Rattle.jobs.specs.declared.call.Call.{Call}
 use Rattle.jobs.specs.declared.call.Call.TheVariants as call
 use Rattle.jobs.specs.declared.call.Answer.{Answer}
@@ -57,7 +56,7 @@ refused_line name x = name ++ (codes " " ++ (declined_text x ++ codes "\n"))
 
 -- a cycle: the retired and the issued counter, the hold or 0, and the cause or 0
 abbrev pub record_text : CycleRecord → List ℕ
-record_text r = counter_text r.retired ++ (codes " " ++ (counter_text r.issued ++ (codes " " ++ (decimal (hold_or_0 r.hold) ++ (codes " " ++ decimal (cause_or_0 r.cause))))))
+record_text r = cycle_text r ++ (codes " " ++ decimal (cause_or_0 r.cause))
 
 -- the one cycle of a step
 abbrev pub step_line : List ℕ → CycleRecord → List ℕ
@@ -77,7 +76,7 @@ run_lines name n rs = numbered cycle_line 1 rs ++ count_line name n
 
 -- cause or 0, counter and count
 abbrev pub report_line : List ℕ → Report → List ℕ
-report_line name r = name ++ (codes " " ++ (decimal (cause_or_0 r.cause) ++ (codes " " ++ (decimal r.counter ++ (codes " " ++ (decimal r.count ++ codes "\n"))))))
+report_line name r = name ++ (codes " " ++ (report_text r ++ codes "\n"))
 
 -- a word behind a space
 abbrev pub spaced_word : ℕ → List ℕ
@@ -129,7 +128,7 @@ device_name Spare = codes "spare"
 -- why, where and after how many instructions and cycles a core of the cradle stopped
 abbrev pub stop_line : Device → Report → ℕ → List ℕ
 stop_line d r cycles =
-    device_name d ++ (codes " stop " ++ (decimal (cause_or_0 r.cause) ++ (codes " " ++ (decimal r.counter ++ (codes " " ++ (decimal r.count ++ (codes " cycles " ++ (decimal cycles ++ codes "\n"))))))))
+    device_name d ++ (codes " stop " ++ (report_text r ++ (codes " cycles " ++ (decimal cycles ++ codes "\n"))))
 
 -- the plain machine's instructions, and whether it agrees
 abbrev pub plain_line : ℕ → Bool → List ℕ

@@ -1,12 +1,12 @@
 // The lines of a call and its answer.
 ghost use Rattle.std.specs.Prelude.{◌≡◌, true, ◌++◌, is_ok, string_bytes};
-ghost use Rattle.printing.specs.Lines.{run_lines, report_line, answer_lines, call_name};
+ghost use Rattle.printing.specs.Lines.{run_lines, answer_lines, call_name};
 
 use crate::calls::call_name;
-use crate::parts::{Cycle, Declined, push_words};
-use isa::number::number_or_0;
+use crate::parts::{Declined, Record, push_words};
+use jobfile::lines::Stop;
 use jobs::call::{Answer, Call};
-use pickcore::record::{CycleRecord, Report};
+use pickcore::record::CycleRecord;
 use std::alloc::AllocError;
 
 // Appends the cycles of a run, and how many it had.
@@ -19,19 +19,9 @@ fn push_run(
     ensures { is_ok result ≡ true → string_bytes text.new ≡ string_bytes text.old ++ run_lines name.now count records.now }
 {
     for (i, record) in records.iter().enumerate() {
-        writeln!(text, "cycle {} {}", i + 1, Cycle(*record))?;
+        writeln!(text, "cycle {} {}", i + 1, Record(*record))?;
     }
     writeln!(text, "{name} {count}")
-}
-
-// Appends cause, counter and count.
-fn push_report(text: &mut String, name: &str, report: Report) -> Result<(), AllocError>
-    ensures { is_ok result ≡ true → string_bytes text.new ≡ string_bytes text.old ++ report_line name.now report }
-{
-    let cause = number_or_0(report.cause);
-    let counter = report.counter;
-    let count = report.count;
-    writeln!(text, "{name} {cause} {counter} {count}")
 }
 
 // Appends the lines of a call and its answer: of a run with the records that it wrote, of a call for the data words
@@ -47,10 +37,10 @@ pub fn push_answer(
 {
     let name = call_name(call);
     match answer {
-        Answer::Stepped(Ok(record)) => writeln!(text, "{name} {}", Cycle(*record)),
+        Answer::Stepped(Ok(record)) => writeln!(text, "{name} {}", Record(*record)),
         Answer::Ran(Ok(count)) => push_run(text, name, *count, records),
         Answer::Done(Ok(())) => writeln!(text, "{name} ok"),
-        Answer::Reported(Ok(report)) => push_report(text, name, *report),
+        Answer::Reported(Ok(report)) => writeln!(text, "{name} {}", Stop(*report)),
         Answer::Registers(Ok(registers)) => push_words(text, name, registers),
         Answer::Imaged(Ok(image)) => push_words(text, name, image),
         Answer::Data(_) => push_words(text, name, words),

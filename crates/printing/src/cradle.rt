@@ -4,8 +4,8 @@ ghost use Rattle.printing.specs.Lines.{device_name, refused_line, stop_line, cou
 
 use crate::device::Device;
 use crate::parts::Declined;
-use isa::number::number_or_0;
 use isa::refusal::Refusal;
+use jobfile::lines::Stop;
 use pickcore::record::Report;
 use std::alloc::AllocError;
 
@@ -29,13 +29,7 @@ pub fn push_stop(
 ) -> Result<(), AllocError>
     ensures { is_ok result ≡ true → string_bytes text.new ≡ string_bytes text.old ++ stop_line device report cycles }
 {
-    let cause = number_or_0(report.cause);
-    let counter = report.counter;
-    let count = report.count;
-    writeln!(
-        text,
-        "{device} stop {cause} {counter} {count} cycles {cycles}"
-    )
+    writeln!(text, "{device} stop {} cycles {cycles}", Stop(report))
 }
 
 // Appends the instructions that both cores ran.

@@ -4,7 +4,7 @@ ghost use Rattle.printing.specs.Lines.{declined_text, record_text, words_text, w
 
 use isa::number::number_or_0;
 use isa::refusal::Refusal;
-use jobfile::lines::{Counter, HexWord};
+use jobfile::lines::{Cycle, HexWord};
 use pickcore::record::CycleRecord;
 use std::alloc::AllocError;
 use std::fmt;
@@ -25,19 +25,15 @@ impl fmt::Display for Declined {
     }
 }
 
-// What one cycle did: the retired and the issued counter, the hold and the cause.
+// What one cycle of a list did, with its cause.
 #[derive(Clone, Copy, PartialEq, Eq, Debug)]
-pub struct Cycle(pub CycleRecord);
+pub struct Record(pub CycleRecord);
 
-impl fmt::Display for Cycle {
+impl fmt::Display for Record {
     ghost output = { λ x. Some (record_text x.0) };
 
     fn fmt<W: fmt::Write>(&self, f: &mut fmt::Formatter<W>) -> fmt::Result {
-        let retired = Counter(self.0.retired);
-        let issued = Counter(self.0.issued);
-        let hold = number_or_0(self.0.hold);
-        let cause = number_or_0(self.0.cause);
-        write!(f, "{retired} {issued} {hold} {cause}")
+        write!(f, "{} {}", Cycle(self.0), number_or_0(self.0.cause))
     }
 }
 
