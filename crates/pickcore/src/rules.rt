@@ -18,7 +18,7 @@ use isa::words::{Kind, read_word};
 use recovery::{Recovery, Trap};
 
 // Program and data words are passed one by one: a struct would hold a `&mut`, and each clause speak of its loan.
-// The bounds on the count are clauses, no invariant: it may rise twice within a cycle, and the core's type bounds it between.
+// The bounds on program and count are clauses, no invariants: the one is lent, the other may rise twice within a cycle.
 impl<S: Recovery> Pipeline<S> {
     // One cycle: the counter that retired, and how it ended. A hold or a stop ends it.
     pub(crate) fn cycle(
