@@ -4,6 +4,7 @@
 
 pub mod compute;
 pub mod fault;
+pub mod fetch;
 pub mod memory;
 pub mod number;
 pub mod plain;

@@ -6,8 +6,9 @@ ghost use Rattle.isa.specs.Table.{verdict, value_or};
 
 use crate::compute::{branch_taken, compute};
 use crate::fault::Fault;
+use crate::fetch::fetch;
 use crate::memory::store_word;
-use crate::words::{Kind, read_word};
+use crate::words::Kind;
 
 // Sixteen registers and the counter; program and data words are lent to each step.
 #[derive(Clone, Copy, PartialEq, Eq, Debug)]
@@ -34,12 +35,7 @@ impl PlainMachine {
         ensures leaves { plain_of self.new «data».new ≡ value_or (plain_of self.old «data».old) (stepped program.now (plain_of self.old «data».old)) }
     {
         let at = self.counter;
-        if at >= program.len() {
-            return Err(Fault::PastEnd);
-        }
-        let Ok((kind, d, a, b, n)) = read_word(program[at]) else {
-            return Err(Fault::Illegal);
-        };
+        let (kind, d, a, b, n) = fetch(program, at)?;
         let x = self.registers[a as usize];
         let y = self.registers[b as usize];
         match kind {

@@ -1,28 +1,18 @@
 -- The instruction at a counter, and what each way of issuing it comes to.
-use Rattle.std.proofs.Common.{◌≡◌, ℕ, ◌<◌, ◌≤◌, false, cond, List, length, get_or, Some, None, Ok, Err, Option, Result, sym, refl, ap, ◌∙◌, arith}
-use Rattle.std.proofs.lemmas.Bool.{lt-ltb, le-ltb}
+use Rattle.std.proofs.Common.{◌≡◌, ℕ, false, List, Some, None, Ok, Err, Option, Result, sym, refl, ap, ◌∙◌, arith}
 use Rattle.isa.specs.declared.fault.Fault.{Fault}
-use Rattle.isa.specs.declared.fault.Fault.TheVariants as fault
 use Rattle.isa.specs.declared.fault.Cause.{Cause}
 use Rattle.isa.specs.declared.fault.Cause.TheVariants as cause
-use Rattle.isa.specs.declared.refusal.Refusal.{Refusal}
 use Rattle.isa.specs.declared.unit.ExecUnit.{ExecUnit}
 use Rattle.isa.specs.declared.words.Kind.{Kind}
 use Rattle.isa.specs.declared.words.Kind.TheVariants.{Stop, Set, Add, Subtract, ExclusiveOr, Multiply, Divide, CheckedAdd, Load, Store, BranchEqual, BranchUnequal}
-use Rattle.isa.specs.Words.{decoded}
-use Rattle.isa.specs.Table.{Instr, halt, store, work, jump, fetched, instruction, row, unit_of, sources_of, computes, target}
+use Rattle.isa.specs.Table.{Instr, halt, store, work, jump, row, unit_of, sources_of, computes, target}
 use Rattle.isa.specs.Plain.{reads}
 use Rattle.recovery.specs.Meaning.{Entry, oldest_answer}
 use Rattle.pickcore.specs.declared.record.Hold.{Hold}
 use Rattle.pickcore.specs.declared.record.Hold.TheVariants as hold
 use Rattle.pickcore.specs.declared.record.Ending.{Ending}
 use Rattle.pickcore.specs.Cycle.{Setting, Pipe, Move, Turn, beside, drained, drains, writes, putting, working, jumping, looks, dispatch, issues, Chosen}
-
-pub fetched_past : (program : List ℕ) (n : ℕ) → length program ≤ n → fetched program n ≡ halt fault.PastEnd
-fetched_past program n h = ap (λ b. cond b (instruction (decoded (get_or program n 0))) (halt fault.PastEnd)) (le-ltb n (length program) h)
-
-pub fetched_at : (program : List ℕ) (n : ℕ) (i : Result (Kind × ℕ × ℕ × ℕ × ℕ) Refusal) → n < length program → i ≡ decoded (get_or program n 0) → fetched program n ≡ instruction i
-fetched_at program n i h e = ap (λ b. cond b (instruction (decoded (get_or program n 0))) (halt fault.PastEnd)) (lt-ltb n (length program) h) ∙ ap instruction (sym e)
 
 pub row_work : (k : Kind) (u : ExecUnit) (d a b n : ℕ) → Some u ≡ unit_of k → row k d a b n ≡ work u d (sources_of k a b) (computes k n)
 row_work Stop u d a b n h = let z : ◌≡◌ {A = ℕ} 0 1 = cc in absurd (omega arith)

@@ -12,9 +12,10 @@ use crate::record::{Ending, Hold};
 use crate::stages::{Stage, Stages};
 use isa::compute::{branch_taken, compute, unit_of};
 use isa::fault::{Cause, Fault};
+use isa::fetch::fetch;
 use isa::memory::store_word;
 use isa::unit::UNITS;
-use isa::words::{Kind, read_word};
+use isa::words::Kind;
 use recovery::{Recovery, Trap};
 
 // Program and data words are passed one by one: a struct would hold a `&mut`, and each clause speak of its loan.
@@ -100,12 +101,9 @@ impl<S: Recovery> Pipeline<S> {
         requires { (length program.now ≤ 4096) × (self.old.count < 4000000000) }
         ensures { Chosen (λ t. dispatch (setting S.MARK delays.now program.now) t (pipe_of S.meaning self.old) «data».old (fetched program.now self.old.next)) (S.meaning self.old.scheme).flight result (record { ending = result; pipe = pipe_of S.meaning self.new; words = «data».new }) }
     {
-        let at = self.next as usize;
-        if at >= program.len() {
-            return self.drain(Hold::Flight, Cause::Fault(Fault::PastEnd));
-        }
-        let Ok((kind, d, a, b, n)) = read_word(program[at]) else {
-            return self.drain(Hold::Flight, Cause::Fault(Fault::Illegal));
+        let (kind, d, a, b, n) = match fetch(program, self.next as usize) {
+            Ok(word) => word,
+            Err(fault) => return self.drain(Hold::Flight, Cause::Fault(fault)),
         };
         match unit_of(kind) {
             Some(unit) => {
