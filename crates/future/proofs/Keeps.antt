@@ -71,12 +71,12 @@ turn (suc i) t r (s ∷ ss) ws l p g =
     (and_parts (clear s.status s.destination (flight_of ((t + 1) % 256) ss)) (guarded (flight_of ((t + 1) % 256) ss)) g).1
 
 module _ (b : Buffer) where
-  delivered_word : (u : ℕ) (r : Result ℕ Fault) (o : Option ℕ) → u < 256 → o ≡ taker_at b u → guarded (mean b).flight ≡ true → written (newest_of (mean b)) (option_and_then (slice_get b.slots.items) o) r ≡ newest_of (deliver_leaves (mean b) u r)
+  delivered_word : (u : ℕ) (r : Result ℕ Fault) (o : Option ℕ) → u < 256 → o ≡ taker_at b u → guarded (mean b).flight ≡ true → written (newest_of (mean b)) (option_and_then (slice_get b.flight.entries.items) o) r ≡ newest_of (deliver_leaves (mean b) u r)
   delivered_word u r None l h g = ap newest_of (delivers_none b u r l h).1
   delivered_word u r (Some i) l h g =
       let f = taken b u i l h in
-      let d = hit b.first u i (ended r) b.slots.items b.tagged f.0 (omega (arith, b.most, b.room)) f.1 f.2 in
-      ap (λ s. written (newest_of (mean b)) s r) (slice_get-get_or b.slots.items i d0 f.0) ∙ (turn i b.first r b.slots.items b.settled f.0 f.2 g ∙ ap (current b.settled) (sym d.1))
+      let d = hit b.flight.first u i (ended r) b.flight.entries.items b.flight.tagged f.0 (omega (arith, b.flight.most, b.flight.room)) f.1 f.2 in
+      ap (λ s. written (newest_of (mean b)) s r) (slice_get-get_or b.flight.entries.items i d0 f.0) ∙ (turn i b.flight.first r b.flight.entries.items b.settled f.0 f.2 g ∙ ap (current b.settled) (sym d.1))
 
   pub follows_deliver : (ws vs : List ℕ) (n : Meaning) (u : ℕ) (r : Result ℕ Fault) → u < 256 → vs ≡ written ws (taken_slot b u) r → n ≡ deliver_leaves (mean b) u r → Follows ws (mean b) → Follows vs n
   follows_deliver ws vs n u r l e q f =

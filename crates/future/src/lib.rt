@@ -42,11 +42,11 @@ impl Recovery for FutureFile {
 
     ghost sixteen = { λ s. s.buffer.sixteen };
 
-    ghost some = { λ s. s.buffer.some };
+    ghost some = { λ s. s.buffer.flight.some };
 
-    ghost most = { λ s. s.buffer.most };
+    ghost most = { λ s. s.buffer.flight.most };
 
-    ghost roomy = { λ s. omega (arith, mean_length s.buffer, s.buffer.room) };
+    ghost roomy = { λ s. omega (arith, mean_length s.buffer, s.buffer.flight.room) };
 
     fn fresh() -> FutureFile {
         FutureFile {

@@ -1,15 +1,15 @@
 -- Unwinding, record by record, and the search over the records.
-use Rattle.std.specs.Prelude.{◌≡◌, ℕ, suc, ◌+◌, ◌%◌, ◌<◌, Bool, true, false, cond, ◌||◌, ◌≢◌, List, [], ◌∷◌, ◌++◌, length, Some, None, Option, ◌==◌, slice_index, slice_index_or, slice_set, refl}
-use Rattle.std.proofs.Common.{ap, sym, ◌∙◌, ⊎_elim, arith, add-one}
+use Rattle.std.specs.Prelude.{◌≡◌, ℕ, suc, ◌+◌, ◌%◌, Bool, true, false, cond, ◌||◌, ◌≢◌, List, [], ◌∷◌, ◌++◌, length, Some, None, Option, ◌==◌, slice_index, slice_set, refl}
+use Rattle.std.proofs.Common.{ap, sym, ◌∙◌, ⊎_elim, arith}
 use Rattle.std.proofs.lemmas.Bool.{eqb-false, eqb-true, or_parts, cases_Bool}
 use Rattle.std.proofs.lemmas.List.{length-set, set-set, set_comm, set-get_or, get_or-set_other}
 use Rattle.recovery.specs.declared.Status.{Status}
 use Rattle.recovery.specs.declared.Status.TheVariants.{Pending, Done, Faulted}
 use Rattle.recovery.specs.Meaning.{Entry, is_register, put, youngest, held_up, unready, word_in, word_of}
-use Rattle.recovery.specs.Search.{or_else, last_index, behind}
+use Rattle.recovery.specs.Search.{or_else, last_of}
 use Rattle.recovery.specs.Slots.{entry_of, flight_of}
 use Rattle.recovery.specs.Slots.{status_in}
-use Rattle.recovery.proofs.Flights.{in_or, within}
+use Rattle.recovery.proofs.Flights.{in_or}
 use Rattle.history.specs.declared.buffer.HistoryRecord.{HistoryRecord}
 use Rattle.history.specs.declared.buffer.Progress.{Progress}
 use Rattle.history.specs.declared.buffer.Progress.TheVariants.{Waiting, Finished, Failed}
@@ -87,28 +87,27 @@ pub put_back : (ws : List ℕ) (d : Option ℕ) (v : ℕ) → put (put ws d v) d
 put_back ws None v = refl
 put_back ws (Some d) v = set-set ws d v (slice_index ws d) ∙ set-get_or ws d 0
 
--- the search over the records is the search over the flight
-abbrev pub progress_at : List HistoryRecord → Option ℕ → Option Progress
-progress_at xs None = None
-progress_at xs (Some i) = Some (slice_index_or xs i unused).progress
+-- the search over the records
+abbrev pub progress_in : Option HistoryRecord → Option Progress
+progress_in None = None
+progress_in (Some x) = Some x.progress
 
-at_behind : (x : HistoryRecord) (xs : List HistoryRecord) (o : Option ℕ) (b : Bool) → progress_at (x ∷ xs) (behind o b) ≡ or_else (progress_at xs o) (cond b (Some x.progress) None)
-at_behind x xs (Some i) b = rw add-one
-at_behind x xs None true = refl
-at_behind x xs None false = refl
+progress_or : (o : Option HistoryRecord) (b : Bool) (x : HistoryRecord) → progress_in (or_else o (cond b (Some x) None)) ≡ or_else (progress_in o) (cond b (Some x.progress) None)
+progress_or (Some y) b x = refl
+progress_or None true x = refl
+progress_or None false x = refl
 
-found_progress : (r : ℕ) (xs : List HistoryRecord) → progress_at xs (last_index (λ x. record_names x r) xs) ≡ newest_progress r xs
+found_progress : (r : ℕ) (xs : List HistoryRecord) → progress_in (last_of (λ x. record_names x r) xs) ≡ newest_progress r xs
 found_progress r [] = refl
-found_progress r (x ∷ xs) = at_behind x xs (last_index (λ y. record_names y r) xs) (record_names x r) ∙ ap (λ o. or_else o (cond (record_names x r) (Some x.progress) None)) (found_progress r xs)
+found_progress r (x ∷ xs) =
+    progress_or (last_of (λ y. record_names y r) xs) (record_names x r) x
+    ∙ ap (λ o. or_else o (cond (record_names x r) (Some x.progress) None)) (found_progress r xs)
 
-pub newest_within : (r i : ℕ) (xs : List HistoryRecord) → Some i ≡ last_index (λ x. record_names x r) xs → i < length xs
-newest_within r i xs h = within (λ x. record_names x r) xs i (sym h)
+pub newest_some : (r : ℕ) (x : HistoryRecord) (xs : List HistoryRecord) → Some x ≡ last_of (λ y. record_names y r) xs → Some x.progress ≡ newest_progress r xs
+newest_some r x xs h = ap progress_in h ∙ found_progress r xs
 
-pub newest_some : (r i : ℕ) (xs : List HistoryRecord) → Some i ≡ last_index (λ x. record_names x r) xs → Some (slice_index_or xs i unused).progress ≡ newest_progress r xs
-newest_some r i xs h = ap (progress_at xs) h ∙ found_progress r xs
-
-pub newest_none : (r : ℕ) (xs : List HistoryRecord) → None ≡ last_index (λ x. record_names x r) xs → None ≡ newest_progress r xs
-newest_none r xs h = ap (progress_at xs) h ∙ found_progress r xs
+pub newest_none : (r : ℕ) (xs : List HistoryRecord) → None ≡ last_of (λ x. record_names x r) xs → None ≡ newest_progress r xs
+newest_none r xs h = ap progress_in h ∙ found_progress r xs
 
 or_none : (o : Option Progress) (b : Bool) (s : Progress) → or_else o (cond b (Some s) None) ≡ None → (b ≡ false) × (o ≡ None)
 or_none (Some y) b s h = grind arith

@@ -2,9 +2,9 @@
 // old words back, from the youngest record to the oldest.
 #![tactic(auto)]
 
-ghost use Rattle.std.specs.Prelude.{◌≡◌, ◌<◌, ◌≤◌};
+ghost use Rattle.std.specs.Prelude.{◌≡◌, ◌<◌};
 ghost use Rattle.recovery.specs.declared.Timing.TheVariants.{Early};
-ghost use Rattle.recovery.specs.Meaning.{awaited, awaited_destination, blank};
+ghost use Rattle.recovery.specs.Meaning.{awaited, awaited_destination};
 ghost use Rattle.history.specs.Unwind.{record_names, unwind, word_at, first_progress, new_record, newest_progress, progress_by, file_after};
 ghost use Rattle.history.specs.Buffer.{meaning_of};
 ghost use Rattle.std.proofs.Common.{arith};
@@ -13,11 +13,11 @@ ghost use Rattle.history.specs.Unwinding.{length_unwind};
 
 pub mod buffer;
 
-use arrayvec::ArrayVec;
 pub use buffer::HistoryBuffer;
 use buffer::{HistoryRecord, Progress};
 use isa::fault::Fault;
-use recovery::search::{Naming, youngest};
+use recovery::flight::Flight;
+use recovery::search::Naming;
 use recovery::slots::put_word;
 use recovery::{AdmitError, Recovery, Timing, Trap};
 
@@ -87,26 +87,12 @@ fn unwind_all(file: &mut [u32; 16], records: &[HistoryRecord])
 }
 
 impl HistoryBuffer {
-    // A buffer with zero registers and nothing in flight.
-    fn with_capacity(capacity: u32) -> HistoryBuffer
-        requires { (1 ≤ capacity) × (capacity ≤ 16) }
-        ensures { meaning_of result ≡ blank capacity }
-    {
-        HistoryBuffer {
-            file: [0; 16],
-            capacity,
-            first: 0,
-            records: ArrayVec::new(),
-        }
-    }
-
     // The progress of the youngest record that names the register.
-    #[tactic(auto, using(crate::specs::Unwinding::newest_none))]
+    #[tactic(auto, using(crate::specs::Unwinding::newest_none, crate::specs::Unwinding::newest_some))]
     fn newest(&self, register: u8) -> Option<Progress>
-        ensures { result ≡ newest_progress register self.now.records.items }
+        ensures { result ≡ newest_progress register self.now.flight.entries.items }
     {
-        let i = youngest(&self.records, register)?;
-        Some(self.records[i].progress)
+        Some(self.flight.newest(register)?.progress)
     }
 
     // Whether a register is awaited: only the word of a finished record is in the file.
@@ -135,58 +121,57 @@ impl Recovery for HistoryBuffer {
 
     ghost meaning = { meaning_of };
 
-    ghost sixteen = { λ s. omega (arith, length_unwind s.records.items s.file, s.sixteen) };
+    ghost sixteen = { λ s. omega (arith, length_unwind s.flight.entries.items s.file, s.sixteen) };
 
-    ghost some = { λ s. s.some };
+    ghost some = { λ s. s.flight.some };
 
-    ghost most = { λ s. s.most };
+    ghost most = { λ s. s.flight.most };
 
-    ghost roomy = { λ s. omega (arith, flown s, s.room) };
+    ghost roomy = { λ s. omega (arith, flown s, s.flight.room) };
 
     fn fresh() -> HistoryBuffer {
-        HistoryBuffer::with_capacity(1)
+        HistoryBuffer {
+            file: [0; 16],
+            flight: Flight::new(),
+        }
     }
 
     fn start(&mut self, capacity: u32) -> bool {
-        if !(1..=16).contains(&capacity) {
+        if !self.flight.start(capacity) {
             return false;
         }
-        *self = HistoryBuffer::with_capacity(capacity);
+        self.file = [0; 16];
         true
     }
 
     #[tactic(auto, using(crate::specs::Steps::place_by))]
     fn place(&mut self, register: u8, word: u32) -> bool {
-        if !self.records.is_empty() || register >= 16 {
+        if !self.flight.entries().is_empty() || register >= 16 {
             return false;
         }
         self.file[register as usize] = word;
         true
     }
 
-    #[tactic(auto, using(crate::specs::Steps::admits_full, crate::specs::Steps::admits_tagged, crate::specs::Steps::guarded_more))]
+    #[tactic(auto, using(crate::specs::Steps::admits, crate::specs::Steps::guarded_more))]
     fn admit(&mut self, counter: u16, destination: Option<u8>) -> Result<u8, AdmitError> {
         if self.awaits_destination(destination) {
             return Err(AdmitError::Awaited);
         }
-        if self.records.len() >= self.capacity as usize {
-            return Err(AdmitError::Full);
-        }
-        let tag = self.first.wrapping_add(self.records.len() as u8);
-        self.records
-            .push(new_record(&self.file, counter, destination));
-        Ok(tag)
+        self.flight
+            .push(new_record(&self.file, counter, destination))
     }
 
     fn deliver(&mut self, tag: u8, outcome: Result<u32, Fault>) -> bool {
-        let i = tag.wrapping_sub(self.first) as usize;
-        let Some(record) = self.records.get_mut(i) else {
+        let Some(record) = self.flight.entry_at(tag) else {
             return false;
         };
         if record.progress != Progress::Waiting {
             return false;
         }
-        record.progress = store(&mut self.file, record.destination, outcome);
+        let progress = store(&mut self.file, record.destination, outcome);
+        self.flight
+            .replace(tag, HistoryRecord { progress, ..record });
         true
     }
 
@@ -199,12 +184,12 @@ impl Recovery for HistoryBuffer {
     }
 
     fn oldest(&self) -> Option<u16> {
-        self.records.first().map(|record| record.counter)
+        self.flight.oldest().map(|record| record.counter)
     }
 
     #[tactic(auto, using(crate::specs::Steps::retires, crate::specs::Steps::guarded_on))]
     fn retire(&mut self) -> Result<Option<u16>, Trap> {
-        let Some(&head) = self.records.first() else {
+        let Some(head) = self.flight.oldest() else {
             return Ok(None);
         };
         match head.progress {
@@ -215,15 +200,14 @@ impl Recovery for HistoryBuffer {
             }),
             // No word moves: the result is in the file, and only the old word is lost.
             Progress::Finished => {
-                self.records.remove(0);
-                self.first = self.first.wrapping_add(1);
+                self.flight.remove_oldest();
                 Ok(Some(head.counter))
             }
         }
     }
 
     fn back_out(&mut self) {
-        unwind_all(&mut self.file, &self.records);
-        self.records.clear();
+        unwind_all(&mut self.file, self.flight.entries());
+        self.flight.clear();
     }
 }

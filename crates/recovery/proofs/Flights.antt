@@ -1,10 +1,10 @@
 -- Slots with consecutive tags, as a flight: the search, a fresh tag, and a delivery at a place.
-use Rattle.std.proofs.Common.{◌≡◌, ℕ, zero, suc, ◌+◌, ◌%◌, ◌<◌, ◌≤◌, Bool, true, false, cond, ◌&&◌, ◌||◌, eqb, List, [], ◌∷◌, ◌++◌, length, get_or, set, Some, None, Option, sym, refl, ap, ◌∙◌, ⊎_elim, add-one, arith}
+use Rattle.std.proofs.Common.{◌≡◌, ℕ, zero, suc, ◌+◌, ◌%◌, ◌<◌, ◌≤◌, Bool, true, false, cond, ◌&&◌, ◌||◌, eqb, List, [], ◌∷◌, ◌++◌, length, get_or, set, Some, None, Option, sym, refl, ap, ◌∙◌, ⊎_elim, arith}
 use Rattle.std.proofs.lemmas.Bool.{ne_eqb, eq-eqb, cases_eq, and_left, and_right}
 use Rattle.recovery.specs.declared.Status.{Status}
 use Rattle.recovery.specs.declared.Status.TheVariants.{Pending}
 use Rattle.recovery.specs.Meaning.{Entry, youngest, has_tag, waiting, delivered, takes, is_pending, with_status}
-use Rattle.recovery.specs.Search.{or_else, last_index, behind}
+use Rattle.recovery.specs.Search.{or_else, last_of, last_index, behind}
 use Rattle.recovery.specs.declared.slots.Slot.{Slot}
 use Rattle.recovery.specs.Slots.{slot_names, entry_of, flight_of, status_in}
 
@@ -16,27 +16,27 @@ pub flight_length : (t : ℕ) (ss : List Slot) → length (flight_of t ss) ≡ l
 flight_length t [] = refl
 flight_length t (s ∷ ss) = ap suc (flight_length ((t + 1) % 256) ss)
 
-abbrev pub status_at : List Slot → Option ℕ → Option Status
-status_at ss None = None
-status_at ss (Some i) = Some (get_or ss i d0).status
-
 pub in_or : (o : Option Entry) (b : Bool) (e : Entry) → status_in (or_else o (cond b (Some e) None)) ≡ or_else (status_in o) (cond b (Some e.status) None)
 in_or (Some x) b e = refl
 in_or None true e = refl
 in_or None false e = refl
 
-at_behind : (s : Slot) (ss : List Slot) (o : Option ℕ) (b : Bool) → status_at (s ∷ ss) (behind o b) ≡ or_else (status_at ss o) (cond b (Some s.status) None)
-at_behind s ss (Some i) b = rw add-one
-at_behind s ss None true = refl
-at_behind s ss None false = refl
+abbrev pub slot_status : Option Slot → Option Status
+slot_status None = None
+slot_status (Some s) = Some s.status
+
+slot_or : (o : Option Slot) (b : Bool) (s : Slot) → slot_status (or_else o (cond b (Some s) None)) ≡ or_else (slot_status o) (cond b (Some s.status) None)
+slot_or (Some x) b s = refl
+slot_or None true s = refl
+slot_or None false s = refl
 
 -- the search over the slots is the search over the flight
-pub found : (t r : ℕ) (ss : List Slot) → status_in (youngest r (flight_of t ss)) ≡ status_at ss (last_index (λ s. slot_names s r) ss)
+pub found : (t r : ℕ) (ss : List Slot) → status_in (youngest r (flight_of t ss)) ≡ slot_status (last_of (λ s. slot_names s r) ss)
 found t r [] = refl
 found t r (s ∷ ss) =
     in_or (youngest r (flight_of ((t + 1) % 256) ss)) (slot_names s r) (entry_of t s)
     ∙ (ap (λ o. or_else o (cond (slot_names s r) (Some s.status) None)) (found ((t + 1) % 256) r ss)
-    ∙ sym (at_behind s ss (last_index (λ x. slot_names x r) ss) (slot_names s r)))
+    ∙ sym (slot_or (last_of (λ x. slot_names x r) ss) (slot_names s r) s))
 
 pub behind_within : (o : Option ℕ) (b : Bool) (i n : ℕ) → ((j : ℕ) → o ≡ Some j → j < n) → behind o b ≡ Some i → i < suc n
 behind_within (Some j) b i n h e = let l = h j refl in let q : j + 1 ≡ i = cc in omega arith

@@ -1,2 +1,3 @@
 pub mod Lasts
 pub mod Flights
+pub mod Admitting

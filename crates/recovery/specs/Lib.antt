@@ -1,3 +1,4 @@
 pub mod Search
+pub mod Flight
 pub mod Meaning
 pub mod Slots

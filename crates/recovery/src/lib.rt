@@ -6,6 +6,7 @@ ghost use Rattle.std.specs.Prelude.{◌≡◌, ℕ, ◌≤◌, length};
 ghost use Rattle.recovery.specs.declared.Timing.{Timing};
 ghost use Rattle.recovery.specs.Meaning.{Meaning, fresh, start_answer, start_leaves, place_answer, place_leaves, Admits, deliver_answer, deliver_leaves, look_answer, oldest_answer, retire_answer, retire_leaves, backed_out};
 
+pub mod flight;
 pub mod search;
 pub mod slots;
 

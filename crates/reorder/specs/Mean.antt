@@ -1,17 +1,18 @@
 -- What a reorder buffer means, and what its searches answer.
-use Rattle.std.specs.Prelude.{ℕ, ◌+◌, ◌-◌, ◌%◌, Bool, false, cond, Some, None, Option, option_and_then, slice_get}
+use Rattle.std.specs.Prelude.{ℕ, Bool, false, cond, Some, None, Option, option_and_then, slice_get}
 use Rattle.recovery.specs.declared.Status.{Status}
 use Rattle.recovery.specs.declared.Status.TheVariants.{Pending, Done, Faulted}
 use Rattle.recovery.specs.declared.Timing.{Timing}
 use Rattle.recovery.specs.declared.Timing.TheVariants.{Early, Late}
 use Rattle.recovery.specs.declared.slots.Slot.{Slot}
 use Rattle.recovery.specs.Meaning.{Meaning, youngest, is_pending}
-use Rattle.recovery.specs.Slots.{flight_of, status_in}
+use Rattle.recovery.specs.Slots.{in_slots, status_in}
+use Rattle.recovery.specs.Flight.{distance}
 use Rattle.reorder.specs.declared.buffer.Buffer.{Buffer}
 
 -- the slots are the flight
 abbrev pub mean : Buffer → Meaning
-mean b = record { settled = b.settled; capacity = b.capacity; flight = flight_of b.first b.slots.items }
+mean b = in_slots b.settled b.flight.capacity b.flight.first b.flight.entries.items
 
 -- the status of the youngest entry that names a register
 abbrev pub newest_status : Buffer → ℕ → Option Status
@@ -24,9 +25,9 @@ readable_word Early (Done w) = Some w
 readable_word Late (Done w) = None
 readable_word k (Faulted f) = None
 
--- the place of a tag: how far it is from the oldest entry's
-abbrev pub distance : Buffer → ℕ → ℕ
-distance b t = (t + (256 - b.first)) % 256
+-- the place of a tag
+abbrev pub place_of : Buffer → ℕ → ℕ
+place_of b t = distance b.flight.first t
 
 -- whether there is a slot, and it is pending
 abbrev pub waits : Option Slot → Bool
@@ -35,8 +36,8 @@ waits (Some s) = is_pending s.status
 
 -- the place of the pending entry of a tag
 abbrev pub taker_at : Buffer → ℕ → Option ℕ
-taker_at b t = cond (waits (slice_get b.slots.items (distance b t))) (Some (distance b t)) None
+taker_at b t = cond (waits (slice_get b.flight.entries.items (place_of b t))) (Some (place_of b t)) None
 
 -- the pending slot of a tag
 abbrev pub taken_slot : Buffer → ℕ → Option Slot
-taken_slot b t = option_and_then (slice_get b.slots.items) (taker_at b t)
+taken_slot b t = option_and_then (slice_get b.flight.entries.items) (taker_at b t)

@@ -1,12 +1,11 @@
 // What is done with a reorder buffer: results come in any order, and are settled from the oldest entry on.
-ghost use Rattle.std.specs.Prelude.{◌≡◌, ◌≤◌};
-ghost use Rattle.recovery.specs.Meaning.{blank, fresh, start_answer, start_leaves, place_answer, place_leaves, awaited_source, awaited_destination, Admits, deliver_answer, deliver_leaves, look_answer, oldest_answer, retire_answer, retire_leaves, backed_out};
-ghost use Rattle.reorder.specs.Mean.{mean, newest_status, readable_word, taker_at, taken_slot};
+ghost use Rattle.std.specs.Prelude.{◌≡◌};
+ghost use Rattle.recovery.specs.Meaning.{fresh, start_answer, start_leaves, place_answer, place_leaves, awaited_source, awaited_destination, Admits, deliver_answer, deliver_leaves, look_answer, oldest_answer, retire_answer, retire_leaves, backed_out};
+ghost use Rattle.reorder.specs.Mean.{mean, newest_status, readable_word, taken_slot};
 
 use super::Buffer;
-use arrayvec::ArrayVec;
 use isa::fault::Fault;
-use recovery::search::youngest;
+use recovery::flight::Flight;
 use recovery::slots::{Slot, put_word, status_at_first};
 use recovery::{AdmitError, Status, Timing, Trap};
 
@@ -21,24 +20,14 @@ fn readable(timing: Timing, status: Status) -> Option<u32>
 }
 
 impl Buffer {
-    // A buffer of the capacity: zero registers, nothing in flight.
-    fn empty(capacity: u32) -> Buffer
-        requires { (1 ≤ capacity) × (capacity ≤ 16) }
-        ensures { mean result ≡ blank capacity }
-    {
-        Buffer {
-            settled: [0; 16],
-            capacity,
-            first: 0,
-            slots: ArrayVec::new(),
-        }
-    }
-
     // A buffer never started: capacity 1, zero registers, nothing in flight.
     pub fn new() -> Buffer
         ensures { mean result ≡ fresh }
     {
-        Buffer::empty(1)
+        Buffer {
+            settled: [0; 16],
+            flight: Flight::new(),
+        }
     }
 
     // Sets the capacity, zeroes the registers and empties the flight; outside 1 to 16 it answers no.
@@ -46,10 +35,10 @@ impl Buffer {
         ensures answer { result ≡ start_answer capacity }
         ensures leaves { mean self.new ≡ start_leaves (mean self.old) capacity }
     {
-        if !(1..=16).contains(&capacity) {
+        if !self.flight.start(capacity) {
             return false;
         }
-        *self = Buffer::empty(capacity);
+        self.settled = [0; 16];
         true
     }
 
@@ -59,7 +48,7 @@ impl Buffer {
         ensures answer { result ≡ place_answer (mean self.old) register }
         ensures leaves { mean self.new ≡ place_leaves (mean self.old) register word }
     {
-        if !self.slots.is_empty() || register >= 16 {
+        if !self.flight.entries().is_empty() || register >= 16 {
             return false;
         }
         self.settled[register as usize] = word;
@@ -74,12 +63,11 @@ impl Buffer {
     }
 
     // The status of the youngest entry that names the register.
-    #[tactic(auto, using(crate::specs::Steps::newest_none))]
+    #[tactic(auto, using(crate::specs::Steps::newest_none, crate::specs::Steps::newest_some))]
     fn newest(&self, register: u8) -> Option<Status>
         ensures { result ≡ newest_status self.now register }
     {
-        let i = youngest(&self.slots, register)?;
-        Some(self.slots[i].status)
+        Some(self.flight.newest(register)?.status)
     }
 
     // Whether a source is awaited.
@@ -100,41 +88,27 @@ impl Buffer {
     }
 
     // Appends an entry, unless its destination is awaited or the flight is full.
-    #[tactic(auto, using(crate::specs::Steps::admits_full, crate::specs::Steps::admits_tagged))]
+    #[tactic(auto, using(crate::specs::Steps::admits))]
     pub fn admit(&mut self, counter: u16, destination: Option<u8>) -> Result<u8, AdmitError>
         ensures { Admits (mean self.old) counter destination result (mean self.new) }
     {
         if self.awaits_destination(destination) {
             return Err(AdmitError::Awaited);
         }
-        if self.slots.len() >= self.capacity as usize {
-            return Err(AdmitError::Full);
-        }
-        let tag = self.first.wrapping_add(self.slots.len() as u8);
-        let status = status_at_first(destination);
-        self.slots.push(Slot {
+        self.flight.push(Slot {
             counter,
             destination,
-            status,
-        });
-        Ok(tag)
-    }
-
-    // Where the pending entry of a tag stands, if any.
-    fn taker_at(&self, tag: u8) -> Option<usize>
-        ensures { result ≡ taker_at self.now tag }
-    {
-        let i = tag.wrapping_sub(self.first) as usize;
-        let slot = self.slots.get(i)?;
-        (slot.status == Status::Pending).then_some(i)
+            status: status_at_first(destination),
+        })
     }
 
     // The pending entry of a tag, if any.
+    #[tactic(auto, using(crate::specs::Steps::taken_by))]
     pub fn taker(&self, tag: u8) -> Option<Slot>
         ensures { result ≡ taken_slot self.now tag }
     {
-        let i = self.taker_at(tag)?;
-        Some(self.slots[i])
+        let slot = self.flight.entry_at(tag)?;
+        (slot.status == Status::Pending).then_some(slot)
     }
 
     // Turns the pending entry of a tag done or faulted; without one it answers no.
@@ -142,10 +116,11 @@ impl Buffer {
         ensures answer { result ≡ deliver_answer (mean self.old) tag }
         ensures leaves { mean self.new ≡ deliver_leaves (mean self.old) tag outcome }
     {
-        let Some(i) = self.taker_at(tag) else {
+        let Some(slot) = self.taker(tag) else {
             return false;
         };
-        self.slots[i].status = Status::from(outcome);
+        let status = Status::from(outcome);
+        self.flight.replace(tag, Slot { status, ..slot });
         true
     }
 
@@ -166,7 +141,7 @@ impl Buffer {
     pub fn oldest(&self) -> Option<u16>
         ensures { result ≡ oldest_answer (mean self.now) }
     {
-        self.slots.first().map(|slot| slot.counter)
+        self.flight.oldest().map(|slot| slot.counter)
     }
 
     // Settles the oldest entry where it is done; a faulted one is answered and stays.
@@ -174,7 +149,7 @@ impl Buffer {
         ensures answer { result ≡ retire_answer (mean self.old) }
         ensures leaves { mean self.new ≡ retire_leaves (mean self.old) }
     {
-        let Some(&head) = self.slots.first() else {
+        let Some(head) = self.flight.oldest() else {
             return Ok(None);
         };
         match head.status {
@@ -185,8 +160,7 @@ impl Buffer {
             }),
             Status::Done(word) => {
                 put_word(&mut self.settled, head.destination, word);
-                self.slots.remove(0);
-                self.first = self.first.wrapping_add(1);
+                self.flight.remove_oldest();
                 Ok(Some(head.counter))
             }
         }
@@ -196,6 +170,6 @@ impl Buffer {
     pub fn back_out(&mut self)
         ensures { mean self.new ≡ backed_out (mean self.old) }
     {
-        self.slots.clear();
+        self.flight.clear();
     }
 }
