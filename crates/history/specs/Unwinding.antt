@@ -27,6 +27,9 @@ pub length_unwind : (xs : List HistoryRecord) (ws : List ℕ) → length (unwind
 length_unwind [] ws = refl
 length_unwind (x ∷ xs) ws = length_put (unwind xs ws) x.destination x.old ∙ length_unwind xs ws
 
+pub unwound : (xs : List HistoryRecord) (ws vs : List ℕ) → vs ≡ unwind xs ws → length ws ≡ 16 → length vs ≡ 16
+unwound xs ws vs e h = ap length e ∙ (length_unwind xs ws ∙ h)
+
 pub slots_length : (xs : List HistoryRecord) (ws : List ℕ) → length (slots_of xs ws) ≡ length xs
 slots_length [] ws = refl
 slots_length (x ∷ xs) ws = ap suc (slots_length xs ws)

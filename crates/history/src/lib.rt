@@ -206,6 +206,7 @@ impl Recovery for HistoryBuffer {
         }
     }
 
+    #[tactic(auto, using(crate::specs::Unwinding::unwound))]
     fn back_out(&mut self) {
         unwind_all(&mut self.file, self.flight.entries());
         self.flight.clear();
