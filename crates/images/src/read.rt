@@ -1,6 +1,7 @@
 // Reading an image, from its front: words, then registers of two words each, then the whole.
 ghost use Rattle.std.specs.Prelude.{◌≡◌, ◌+◌, ◌*◌, ◌<◌, ◌≤◌, length, IfOk};
 ghost use Rattle.isa.specs.declared.refusal.Refusal.TheVariants.{ImageWord};
+ghost use Rattle.images.specs.Causes.{cause_of};
 ghost use Rattle.images.specs.Kinds.{word_kind_number};
 ghost use Rattle.images.specs.Words.{value_read, half_read, register_read};
 ghost use Rattle.images.specs.Image.{onto, with_registers, registers_read, cause_read, tail_read, read_words};
@@ -82,18 +83,25 @@ fn read_registers(words: &[u32], register: u32, registers: &mut [u32]) -> Result
     }
 }
 
-// The cause in the word of the causes: the number 0 stands for none.
+// The cause of a number: 0 stands for none, and no cause has a number above 8.
+pub fn cause_from_number(number: u32) -> Option<Option<Cause>>
+    ensures { result ≡ cause_of number }
+{
+    if number == 0 {
+        return Some(None);
+    }
+    match Cause::try_from(number) {
+        Ok(cause) => Some(Some(cause)),
+        Err(_) => None,
+    }
+}
+
+// The cause in the word of the causes.
 fn read_cause(word: u32) -> Result<Option<Cause>, BadWord>
     ensures { result ≡ cause_read word }
 {
     let number = read_half(word, WordKind::Cause, 0, CAUSE_AT)?;
-    if number == 0 {
-        return Ok(None);
-    }
-    match Cause::try_from(u32::from(number)) {
-        Ok(cause) => Ok(Some(cause)),
-        Err(_) => Err(BadWord { index: CAUSE_AT }),
-    }
+    cause_from_number(u32::from(number)).ok_or(BadWord { index: CAUSE_AT })
 }
 
 // The counter, the cause and the count, from the four words after the registers.
