@@ -180,7 +180,11 @@ impl Recovery for HistoryBuffer {
         if self.awaits(register) {
             return None;
         }
-        Some(self.file[register as usize])
+        let word = self.file[register as usize];
+        match Self::MARK {
+            Timing::Early => Some(word),
+            Timing::Late => self.newest(register).is_none().then_some(word),
+        }
     }
 
     fn oldest(&self) -> Option<u16> {
