@@ -1,6 +1,7 @@
 -- Slots with consecutive tags, as a flight: the search, a fresh tag, and a delivery at a place.
-use Rattle.std.proofs.Common.{◌≡◌, ℕ, zero, suc, ◌+◌, ◌%◌, ◌<◌, ◌≤◌, Bool, true, false, cond, ◌&&◌, ◌||◌, eqb, List, [], ◌∷◌, ◌++◌, length, get_or, set, Some, None, Option, sym, refl, ap, ◌∙◌, ⊎_elim, arith}
+use Rattle.std.proofs.Common.{◌≡◌, ℕ, zero, suc, ◌+◌, ◌-◌, ◌%◌, ◌<◌, ◌≤◌, Bool, true, false, cond, ◌&&◌, ◌||◌, eqb, List, [], ◌∷◌, ◌++◌, length, get_or, take, drop, set, Some, None, Option, sym, refl, ap, ◌∙◌, ⊎_elim, add-one, arith}
 use Rattle.std.proofs.lemmas.Bool.{ne_eqb, eq-eqb, cases_eq, and_left, and_right}
+use Rattle.std.proofs.lemmas.List.{length-take, get_or-take}
 use Rattle.recovery.specs.declared.Status.{Status}
 use Rattle.recovery.specs.declared.Status.TheVariants.{Pending}
 use Rattle.recovery.specs.Meaning.{Entry, youngest, has_tag, waiting, delivered, takes, is_pending, with_status}
@@ -101,3 +102,51 @@ hit t u (suc i) st (s ∷ ss) h l m e p =
       ap (λ b. b || waiting u (flight_of ((t + 1) % 256) ss)) no ∙ rest.0,
       ap (λ b. cond b (with_status (entry_of t s) st) (entry_of t s) ∷ delivered u st (flight_of ((t + 1) % 256) ss)) no ∙ ap (λ es. entry_of t s ∷ es) rest.1,
     )
+
+-- For a scheme that keeps its slots in an array of its own with a count beside it: the same, over the slots in use.
+
+-- the status of the slot at an index
+abbrev pub status_at : List Slot → Option ℕ → Option Status
+status_at ss None = None
+status_at ss (Some i) = Some (get_or ss i d0).status
+
+at_behind : (s : Slot) (ss : List Slot) (o : Option ℕ) (b : Bool) → status_at (s ∷ ss) (behind o b) ≡ or_else (status_at ss o) (cond b (Some s.status) None)
+at_behind s ss (Some i) b = rw add-one
+at_behind s ss None true = refl
+at_behind s ss None false = refl
+
+-- the youngest entry that names a register is at the last index of a slot that does
+pub found_at : (t r : ℕ) (ss : List Slot) → status_in (youngest r (flight_of t ss)) ≡ status_at ss (last_index (λ s. slot_names s r) ss)
+found_at t r [] = refl
+found_at t r (s ∷ ss) =
+    in_or (youngest r (flight_of ((t + 1) % 256) ss)) (slot_names s r) (entry_of t s)
+    ∙ (ap (λ o. or_else o (cond (slot_names s r) (Some s.status) None)) (found_at ((t + 1) % 256) r ss)
+    ∙ sym (at_behind s ss (last_index (λ x. slot_names x r) ss) (slot_names s r)))
+
+-- the front of what is in use
+pub front : (n : ℕ) (ss : List Slot) → 0 < n → 0 < length ss → take n ss ≡ get_or ss 0 d0 ∷ take (n - 1) (drop 1 ss)
+front n [] h k = absurd (omega arith)
+front zero (s ∷ ss) h k = absurd (omega arith)
+front (suc n) (s ∷ ss) h k = let e : suc n - 1 ≡ n = omega arith in rw e
+
+-- what the search over the slots in use tells
+module _ (t n r : ℕ) (ss : List Slot) where
+  pub newest_within : (i : ℕ) → Some i ≡ last_index (λ s. slot_names s r) (take (n - 0) ss) → i < n
+  newest_within i h =
+      let w = within (λ s. slot_names s r) (take (n - 0) ss) i (sym h) in
+      omega (arith, length-take (n - 0) ss)
+
+  pub newest_some : (i : ℕ) → Some i ≡ last_index (λ s. slot_names s r) (take (n - 0) ss) → Some (get_or ss i d0).status ≡ status_in (youngest r (flight_of t (take n ss)))
+  newest_some i h =
+      let e : n - 0 ≡ n = omega arith in
+      let l = newest_within i h in
+      let f = found_at t r (take n ss) in
+      let g = rw e at h in
+      sym (f ∙ (ap (status_at (take n ss)) (sym g) ∙ ap (λ s. Some s.status) (get_or-take n ss i d0 l)))
+
+  pub newest_none : None ≡ last_index (λ s. slot_names s r) (take (n - 0) ss) → None ≡ status_in (youngest r (flight_of t (take n ss)))
+  newest_none h =
+      let e : n - 0 ≡ n = omega arith in
+      let f = found_at t r (take n ss) in
+      let g = rw e at h in
+      sym (f ∙ ap (status_at (take n ss)) (sym g))
