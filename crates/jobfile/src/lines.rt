@@ -1,10 +1,11 @@
 // The lines that a program prints.
-ghost use Rattle.std.specs.Prelude.{Some};
-ghost use Rattle.jobfile.specs.Lines.{hex_word, counter_text, cycle_text, cycle_line, report_text, stop_line, declined_line};
+ghost use Rattle.std.specs.Prelude.{◌≡◌, ◌<◌, true, ◌++◌, Some, is_ok, string_bytes};
+ghost use Rattle.jobfile.specs.Lines.{hex_digit, hex_byte, hex_word, counter_text, cycle_text, cycle_line, report_text, stop_line, declined_line};
 
 use isa::number::number_or_0;
 use isa::refusal::Refusal;
 use pickcore::record::{CycleRecord, Report};
+use std::alloc::AllocError;
 use std::fmt;
 
 // A counter, or a dash where there is none.
@@ -104,4 +105,39 @@ impl fmt::Display for HexWord {
         let word = self.0;
         write!(f, "0x{word:08x}")
     }
+}
+
+// A hexadecimal digit.
+fn hex_digit(n: u8) -> char
+    requires { n < 16 }
+    ensures value { result ≡ hex_digit n }
+    ensures ascii { result < 128 }
+{
+    if n < 10 {
+        (b'0' + n) as char
+    } else {
+        (b'a' + (n - 10)) as char
+    }
+}
+
+// Appends the two hexadecimal digits of a byte.
+fn push_byte(text: &mut String, byte: u8) -> Result<(), AllocError>
+    ensures { is_ok result ≡ true → string_bytes text.new ≡ string_bytes text.old ++ hex_byte byte }
+{
+    text.push(hex_digit(byte / 16))?;
+    text.push(hex_digit(byte % 16))?;
+    Ok(())
+}
+
+// Appends a word as `HexWord` writes it, for texts of many words: digit by digit, which takes two thirds of the time.
+pub fn push_word(text: &mut String, word: u32) -> Result<(), AllocError>
+    ensures { is_ok result ≡ true → string_bytes text.new ≡ string_bytes text.old ++ hex_word word }
+{
+    let [first, second, third, last] = word.to_be_bytes();
+    text.push_str("0x")?;
+    push_byte(text, first)?;
+    push_byte(text, second)?;
+    push_byte(text, third)?;
+    push_byte(text, last)?;
+    Ok(())
 }

@@ -1,10 +1,10 @@
 // What several lines share.
 ghost use Rattle.std.specs.Prelude.{◌≡◌, true, ◌++◌, Some, is_ok, string_bytes};
-ghost use Rattle.printing.specs.Lines.{declined_text, record_text, words_text, words_line};
+ghost use Rattle.printing.specs.Lines.{declined_text, record_text, spaced_word, words_line};
 
 use isa::number::number_or_0;
 use isa::refusal::Refusal;
-use jobfile::lines::{Cycle, HexWord};
+use jobfile::lines::{Cycle, push_word};
 use pickcore::record::CycleRecord;
 use std::alloc::AllocError;
 use std::fmt;
@@ -37,24 +37,21 @@ impl fmt::Display for Record {
     }
 }
 
-// Some words, each behind a space.
-#[derive(Clone, Copy, PartialEq, Eq, Debug)]
-pub struct Words<'a>(pub &'a [u32]);
-
-impl fmt::Display for Words<'_> {
-    ghost output = { λ x. Some (words_text x.0.now) };
-
-    fn fmt<W: fmt::Write>(&self, f: &mut fmt::Formatter<W>) -> fmt::Result {
-        for word in self.0 {
-            write!(f, " {}", HexWord(*word))?;
-        }
-        Ok(())
-    }
+// Appends a word behind a space.
+fn push_spaced(text: &mut String, word: u32) -> Result<(), AllocError>
+    ensures { is_ok result ≡ true → string_bytes text.new ≡ string_bytes text.old ++ spaced_word word }
+{
+    text.push_str(" ")?;
+    push_word(text, word)
 }
 
-// Appends a name and some words.
+// Appends a name and some words: straight into the text, since as a `Display` they took half as long again.
 pub fn push_words(text: &mut String, name: &str, words: &[u32]) -> Result<(), AllocError>
     ensures { is_ok result ≡ true → string_bytes text.new ≡ string_bytes text.old ++ words_line name.now words.now }
 {
-    writeln!(text, "{name}{}", Words(words))
+    text.push_str(name)?;
+    for word in words {
+        push_spaced(text, *word)?;
+    }
+    text.push_str("\n")
 }
