@@ -1,11 +1,10 @@
 // The lines that a program prints.
-ghost use Rattle.std.specs.Prelude.{◌≡◌, ◌<◌, true, ◌++◌, Some, is_ok, string_bytes};
+ghost use Rattle.std.specs.Prelude.{◌≡◌, ◌<◌, ◌++◌, Some, codes};
 ghost use Rattle.jobfile.specs.Lines.{hex_digit, hex_byte, hex_word, counter_text, cycle_text, cycle_line, report_text, stop_line, declined_line};
 
 use isa::number::number_or_0;
 use isa::refusal::Refusal;
 use pickcore::record::{CycleRecord, Report};
-use std::alloc::AllocError;
 use std::fmt;
 
 // A counter, or a dash where there is none.
@@ -107,37 +106,29 @@ impl fmt::Display for HexWord {
     }
 }
 
-// A hexadecimal digit.
-fn hex_digit(n: u8) -> char
+// A hexadecimal digit, as ASCII.
+fn hex_digit(n: u8) -> u8
     requires { n < 16 }
-    ensures value { result ≡ hex_digit n }
-    ensures ascii { result < 128 }
+    ensures { result ≡ hex_digit n }
 {
-    if n < 10 {
-        (b'0' + n) as char
-    } else {
-        (b'a' + (n - 10)) as char
-    }
+    if n < 10 { b'0' + n } else { b'a' + (n - 10) }
 }
 
-// Appends the two hexadecimal digits of a byte.
-fn push_byte(text: &mut String, byte: u8) -> Result<(), AllocError>
-    ensures { is_ok result ≡ true → string_bytes text.new ≡ string_bytes text.old ++ hex_byte byte }
+// The two hexadecimal digits of a byte.
+fn hex_byte(byte: u8) -> [u8; 2]
+    ensures { result ≡ hex_byte byte }
 {
-    text.push(hex_digit(byte / 16))?;
-    text.push(hex_digit(byte % 16))?;
-    Ok(())
+    [hex_digit(byte / 16), hex_digit(byte % 16)]
 }
 
-// Appends a word as `HexWord` writes it, for texts of many words: digit by digit, which takes two thirds of the time.
-pub fn push_word(text: &mut String, word: u32) -> Result<(), AllocError>
-    ensures { is_ok result ≡ true → string_bytes text.new ≡ string_bytes text.old ++ hex_word word }
+// A word as `HexWord` writes it, behind a space: its bytes, for lines of many words, which write several words at once.
+pub fn spaced_hex(word: u32) -> [u8; 11]
+    ensures { result ≡ codes " " ++ hex_word word }
 {
     let [first, second, third, last] = word.to_be_bytes();
-    text.push_str("0x")?;
-    push_byte(text, first)?;
-    push_byte(text, second)?;
-    push_byte(text, third)?;
-    push_byte(text, last)?;
-    Ok(())
+    let [a, b] = hex_byte(first);
+    let [c, d] = hex_byte(second);
+    let [e, f] = hex_byte(third);
+    let [g, h] = hex_byte(last);
+    [b' ', b'0', b'x', a, b, c, d, e, f, g, h]
 }
