@@ -59,7 +59,8 @@ fn push_answers(text: &mut String, made: Answered<'_>) -> Result<(), AllocError>
 fn tell_played(alloc: Global, totals: Totals, made: Answered<'_>) -> Result<String, AllocError>
     ensures { IfOk result (λ s. string_bytes s ≡ load_line (Ok tt) ++ (answers_text made.entry.calls.now made.entry.answers.now (take totals.records made.entry.records.now) (take totals.words made.entry.copies.now) ++ totals_line totals.reports totals.instructions totals.cycles)) }
 {
-    let mut text = String::new(alloc);
+    // More than any one piece that is written, so from here the text only doubles: docs/DECISIONS.md says why from 304.
+    let mut text = String::with_capacity(alloc, 304)?;
     push_load(&mut text, Ok(()))?;
     let (records, _) = parts(made.records, totals.records);
     let (copies, _) = parts(made.copies, totals.words);
