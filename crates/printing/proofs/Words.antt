@@ -10,6 +10,7 @@ use Rattle.std.proofs.lemmas.Str.Ascii.{IsAscii-cons, IsAscii-nil}
 use Rattle.jobfile.specs.Lines.{hex_digit, hex_byte}
 use Rattle.printing.specs.Lines.{spaced_word, words_text}
 
+-- hexadecimal digits, and so words in them, are ASCII, and so text
 digit_is_ascii : (n : ℕ) → n < 16 → hex_digit n < 128
 digit_is_ascii n h = cond_both (nat_lt n 10) (48 + n) (87 + n) (λ d. d < 128) (λ _. omega (arith, h)) (λ _. omega (arith, h))
 

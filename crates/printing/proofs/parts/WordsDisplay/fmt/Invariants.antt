@@ -4,6 +4,7 @@ use Rattle.std.specs.Slice.Iter.{chunks_rest, chunks_size}
 use Rattle.printing.specs.Lines.{words_text}
 use Rattle.printing.proofs.parts.WordsDisplay.fmt.Given as goal
 
+-- what is written, and the text of the words to come, are the whole
 abbrev pub invariant-loop-chunk : goal.invariant-loop-chunk
 invariant-loop-chunk g l =
     (goal.iterator-loop-chunk g).can_next l.chunk-iterator
